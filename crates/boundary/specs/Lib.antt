@@ -1,0 +1,2 @@
+-- The answers that C gets, made of those of the crates below.
+pub mod Answers

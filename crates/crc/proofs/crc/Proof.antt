@@ -1,0 +1,23 @@
+-- `crc::crc` gives the CRC of the bytes: they go through a register of all ones, which is the definition. That the table
+-- keeps its rule is computed here, all 256 entries at once.
+-- Assumes nothing.
+use mathlib.Core.Path.{refl}
+use borrow.Author.Needs.{needs}
+use Rattle.crc.specs.Crc.{shift, bitAt, feed, crcOf}
+use Rattle.crc.proofs.TableLaws.{tables-rule}
+use Rattle.crc.proofs.crc.Statement.{statement}
+use Rattle.crc.proofs.crc.Tie as tie
+
+slice-aggregate-after-bytes : tie.Need-slice-aggregate-after-bytes
+slice-aggregate-after-bytes c = search needs
+
+after-bytes-requires : tie.Need-after-bytes-requires
+unfolding shift bitAt feed
+after-bytes-requires c κs = tables-rule 1 refl
+
+returns : tie.Need-returns
+unfolding crcOf
+returns c = c .after-bytes .ensures
+
+pub crc-spec : {M : Type 1} → statement M
+crc-spec = tie.close (tie.spec slice-aggregate-after-bytes after-bytes-requires returns)

@@ -1,0 +1,7 @@
+-- The laws of this crate's definitions, for its own proofs and those of the crates above it.
+pub mod Cases
+pub mod Stretches
+pub mod FormatLaws
+pub mod NumberLaws
+pub mod SignedLaws
+pub mod PartLaws

@@ -1,0 +1,51 @@
+-- Packets back to back: how bytes are cut into T2-MI packets by their own lengths. The batch writer and the gathering
+-- reader stand on this definition. Only length and CRC are judged.
+use Prim.Native.Nat.{ℕ, zero, suc}
+use mathlib.Core.Path.{_≡_}
+use mathlib.Core.Bool.{Bool, true, false, cond}
+use mathlib.Core.List.{List, [], _∷_, _++_}
+use lib.Dec.{leb}
+use lib.ListN.{length, take, drop}
+use Rattle.crc.specs.Crc.{crcHolds}
+use Rattle.packet.specs.Layout.{sizeOf}
+use Rattle.packet.specs.declared.Judged.{Judged}
+use Rattle.packet.specs.declared.Judged.the-variants.{Short, Bad, Good}
+
+-- a whole packet whose CRC holds
+pub record Whole (p : List ℕ) : Type 0 where
+  pub size : length p ≡ sizeOf p
+  pub crc : crcHolds p ≡ true
+
+-- the packet that the bytes begin with: fewer bytes than it needs, a wrong CRC, or good and so long
+unfoldable pub judgeOf : List ℕ → Judged
+judgeOf l = cond (leb (sizeOf l) (length l)) (cond (crcHolds (take (sizeOf l) l)) (Good (sizeOf l)) Bad) Short
+
+-- what bytes are cut into: the good packets up to the first that is not, the rest, and whether the rest begins with a
+-- whole packet whose CRC is wrong
+pub record Cut : Type 0 where
+  pub packets : List (List ℕ)
+  pub rest : List ℕ
+  pub bad : Bool
+
+abbrev pub stop : List ℕ → Bool → Cut
+stop l bad = record { packets = []; rest = l; bad = bad }
+
+abbrev pub more : List ℕ → Cut → Cut
+more p c = record { packets = p ∷ c .packets; rest = c .rest; bad = c .bad }
+
+-- at most k packets
+unfoldable pub cutBy : ℕ → List ℕ → Cut
+cutBy zero l = stop l false
+cutBy (suc k) l =
+    let n = sizeOf l in
+    let on = more (take n l) (cutBy k (drop n l)) in
+    cond (leb n (length l)) (cond (crcHolds (take n l)) on (stop l true)) (stop l false)
+
+-- no bytes hold more packets than there are bytes
+unfoldable pub cut : List ℕ → Cut
+cut l = cutBy (length l) l
+
+-- packets one after another
+unfoldable pub joined : List (List ℕ) → List ℕ
+joined [] = []
+joined (p ∷ ps) = p ++ joined ps

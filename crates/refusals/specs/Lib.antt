@@ -1,0 +1,3 @@
+-- What a refusal is, and what an operation answers with one.
+pub mod Checks
+pub mod Answers
