@@ -1,16 +1,17 @@
--- A format's two round trips, over any list of widths: packing and unpacking undo each other.
+-- A format's two round trips, over any list of widths: packing and unpacking undo each other. A format in two halves is the
+-- two formats.
 -- Assumes nothing.
 use mathlib.Core.Path.{_≡_, refl, sym, ap, ap₂, _∙_, subst}
 use mathlib.Core.Bool.{Bool, true, false, cond}
-use mathlib.Core.List.{List, [], _∷_}
-use Prim.Native.Nat.{ℕ, zero, suc, _+_, _*_, _/_, _%_, _^_, _≤_, _<_}
-use native.Mathlib.Nat.{mod-lt, mod-mod, mod-one, mod-eq-of-lt}
+use mathlib.Core.List.{List, [], _∷_, _++_}
+use Prim.Native.Nat.{ℕ, zero, suc, _+_, _-_, _*_, _/_, _%_, _^_, _≤_, _<_}
+use native.Mathlib.Nat.{zero-add, add-assoc, add-mul, mul-assoc, zero-mul, mod-lt, mod-mod, mod-one, mod-eq-of-lt, add-comm}
 use lib.Arith.{digits-lt}
 use lib.Dec.{ltb, lit<}
 use lib.ListN.{length}
-use lib.Pow.{pow-pos, pow-add, high, low, field, mod-mod-pow, mod-pow-add}
+use lib.Pow.{pow-pos, pow-add, shr-shr, high, low, field, mod-mod-pow, mod-pow-add, ones-lt, le-ones}
 use native.Mathlib.Omega.{arith}
-use borrow.Author.Tests.{ltb-true, lt-ltb}
+use borrow.Author.Tests.{ltb-true, ltb-false, lt-ltb, le-ltb}
 use Rattle.fields.proofs.Cases.{cases, true≢false}
 use Rattle.fields.specs.Formats.{span, pack, unpack, Fit, tooWide}
 
@@ -89,3 +90,42 @@ unfolding tooWide
 fit-not-wide [] fs h = refl
 fit-not-wide (w ∷ ws) [] h = refl
 fit-not-wide (w ∷ ws) (f ∷ fs) h = rw (lt-ltb f (2 ^ w) (h .0)) (fit-not-wide ws fs (h .1))
+
+-- the test as code makes it of a format's last field: against the largest value that fits
+pub wide-last : (w f : ℕ) → ltb (2 ^ w - 1) f ≡ tooWide (w ∷ []) (f ∷ [])
+unfolding tooWide
+wide-last w f =
+    cases (ltb f (2 ^ w))
+    (λ t. rw (t, le-ltb (2 ^ w - 1) f (le-ones w (ltb-true f (2 ^ w) t))))
+    (λ t. rw (t, lt-ltb (2 ^ w - 1) f (omega (arith, ones-lt w, ltb-false f (2 ^ w) t))))
+
+-- ---- a format in two halves is the two formats, one after the other
+
+pub span-append : (vs ws : List ℕ) → span (vs ++ ws) ≡ span vs + span ws
+span-append [] ws = sym (zero-add (span ws))
+span-append (v ∷ vs) ws = ap (λ (n : ℕ). v + n) (span-append vs ws) ∙ sym (add-assoc v (span vs) (span ws))
+
+pub unpack-append : (vs ws : List ℕ) (n : ℕ) → unpack (vs ++ ws) n ≡ unpack vs (n / 2 ^ span ws) ++ unpack ws n
+unfolding unpack
+unpack-append [] ws n = refl
+unpack-append (v ∷ vs) ws n =
+    ap₂ _∷_
+    (ap (λ (x : ℕ). x % 2 ^ v)
+    (ap (λ (k : ℕ). n / 2 ^ k) (span-append vs ws ∙ add-comm (span vs) (span ws)) ∙ sym (shr-shr n (span ws) (span vs))))
+    (unpack-append vs ws n)
+
+-- the fields of two numbers that stand side by side in one
+pub unpack-halves : (vs ws : List ℕ) (a b : ℕ) → b < 2 ^ span ws → unpack (vs ++ ws) (a * 2 ^ span ws + b) ≡ unpack vs a ++ unpack ws b
+unpack-halves vs ws a b h =
+    unpack-append vs ws (a * 2 ^ span ws + b)
+    ∙ ap₂ _++_
+    (ap (unpack vs) (high a (span ws) h))
+    (sym (unpack-mod ws (a * 2 ^ span ws + b)) ∙ ap (unpack ws) (low a (span ws) h))
+
+pub pack-append : (vs ws fs gs : List ℕ) → length vs ≡ length fs → pack (vs ++ ws) (fs ++ gs) ≡ pack vs fs * 2 ^ span ws + pack ws gs
+unfolding pack
+pack-append [] ws [] gs e = rw (zero-mul (2 ^ span ws), zero-add (pack ws gs))
+pack-append [] ws (f ∷ fs) gs e = omega arith
+pack-append (v ∷ vs) ws [] gs e = omega arith
+pack-append (v ∷ vs) ws (f ∷ fs) gs e =
+    rw (span-append vs ws, pow-add 2 (span vs) (span ws), pack-append vs ws fs gs (omega arith), add-mul (f * 2 ^ span vs) (pack vs fs) (2 ^ span ws), mul-assoc f (2 ^ span vs) (2 ^ span ws), add-assoc (f * (2 ^ span vs * 2 ^ span ws)) (pack vs fs * 2 ^ span ws) (pack ws gs))

@@ -4,4 +4,5 @@ pub mod Stretches
 pub mod FormatLaws
 pub mod NumberLaws
 pub mod SignedLaws
+pub mod Complement
 pub mod PartLaws

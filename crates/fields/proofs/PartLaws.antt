@@ -2,14 +2,16 @@
 -- Assumes nothing.
 use mathlib.Core.Path.{_≡_, refl, sym, ap, _∙_}
 use mathlib.Core.List.{List, [], _∷_, _++_, append-assoc, append-nil}
-use Prim.Native.Nat.{ℕ, zero, suc, _+_, _-_, _≤_, _<_}
+use Prim.Native.Nat.{ℕ, zero, suc, _+_, _-_, _*_, _^_, _≤_, _<_}
 use native.Mathlib.Nat.{add-zero, zero-add, suc-add, add-assoc}
 use native.Mathlib.Numerals.{add-one}
 use native.Mathlib.Omega.{arith}
 use lib.ListN.{length, getD, set, take, drop, length-append, length-drop, take-append-drop, drop-of-length-le}
 use lib.Seq.{length-take-le, take-append-le, take-at, drop-at, take-take, take-add, drop-drop, drop-append-add, take-suc, drop-cons, getD-take, getD-drop, set-at, take-nil, take-length}
 use borrow.Author.Tests.{le-leb}
-use Rattle.fields.proofs.NumberLaws.{bytes-take, bytes-drop}
+use Rattle.fields.proofs.NumberLaws.{bytes-take, bytes-drop, number-append, number-lt}
+use Rattle.fields.proofs.FormatLaws.{unpack-halves}
+use Rattle.fields.specs.Formats.{span, unpack}
 use Rattle.fields.specs.Numbers.{Bytes, number, bytes}
 use Rattle.fields.specs.Parts.{part, overlay, inside, numberAt, storedAt, copiedTo}
 
@@ -80,6 +82,20 @@ part-part a n b m l h =
 pub getD-part : (from n : ℕ) (l : List ℕ) (i : ℕ) → i < n → getD (part from n l) i 0 ≡ getD l (from + i) 0
 unfolding part
 getD-part from n l i h = getD-take n (drop from l) i 0 h ∙ getD-drop from l i 0
+
+-- ---- a format in parts
+
+-- the fields of a format whose two halves are whole bytes, over any widths and counts of bytes
+pub in-halves : (vs ws : List ℕ) (j k : ℕ) (s : List ℕ) → Bytes s → length s ≡ j + k → span ws ≡ 8 * k
+    → unpack (vs ++ ws) (number s) ≡ unpack vs (number (part 0 j s)) ++ unpack ws (number (part j k s))
+in-halves vs ws j k s b e w =
+    let p : List ℕ = part 0 j s in
+    let q : List ℕ = part j k s in
+    let two : s ≡ p ++ q = sym (part-whole s) ∙ ap (λ (n : ℕ). part 0 n s) e ∙ part-add 0 j k s ∙ ap (λ (n : ℕ). p ++ part n k s) (zero-add j) in
+    let bits : 8 * length q ≡ span ws = ap (λ (n : ℕ). 8 * n) (length-part j k s (omega arith)) ∙ sym w in
+    ap (λ (l : List ℕ). unpack (vs ++ ws) (number l)) two
+    ∙ ap (unpack (vs ++ ws)) (number-append p q ∙ ap (λ (n : ℕ). number p * 2 ^ n + number q) bits)
+    ∙ unpack-halves vs ws (number p) (number q) (rw bits at (number-lt q (part-bytes j k s b)))
 
 -- ---- overlays
 

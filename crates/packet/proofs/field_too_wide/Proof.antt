@@ -1,13 +1,13 @@
 -- `packet::field_too_wide` meets its contract: of the fields, three have fewer bits than the types that hold them.
 -- Assumes nothing.
 use borrow.Author.Needs.{needs}
-use borrow.Author.Tests.{lt-ltb, le-ltb, ltb-true, ltb-false}
+use borrow.Author.Tests.{lt-ltb, le-ltb}
 use lib.Dec.{ltb}
 use mathlib.Core.Path.{_≡_, sym, _∙_}
 use mathlib.Core.Bool.{true, false, cond}
-use Prim.Native.Nat.{ℕ, _≤_, _<_}
+use Prim.Native.Nat.{_<_}
 use native.Mathlib.Omega.{arith}
-use Rattle.fields.proofs.Cases.{cases}
+use Rattle.fields.proofs.FormatLaws.{wide-last}
 use Rattle.fields.specs.Formats.{tooWide}
 use Rattle.packet.specs.Layout.{header}
 use Rattle.packet.specs.Write.{fieldsOf}
@@ -21,12 +21,6 @@ wide : (h : Header) → h .kind < 256 → h .count < 256
 unfolding tooWide
 wide h k c = rw (lt-ltb (h .kind) 256 k, lt-ltb (h .count) 256 c)
 
-over : (n : ℕ) → ltb 65535 n ≡ cond (ltb n 65536) false true
-over n =
-    cases (ltb n 65536)
-    (λ t. rw t (le-ltb 65535 n (omega (arith, ltb-true n 65536 t))))
-    (λ t. rw t (lt-ltb 65535 n (ltb-false n 65536 t)))
-
 returns : tie.Need-returns
 returns c =
     sym (wide (c .before .before .args .h) (search needs) (search needs) ∙ rw (le-ltb (c .before .before .args .h .frame) 16 (c .if1 .taken)))
@@ -37,9 +31,10 @@ returns-2 c =
     sym (wide h (search needs) (search needs) ∙ rw (lt-ltb (h .frame) 16 (omega arith), le-ltb (h .stream) 8 (c .if2 .taken)))
 
 returns-3 : tie.Need-returns-3
+unfolding tooWide
 returns-3 c =
     let h = c .before .before .before .before .before .args .h in
-    over (h .bits) ∙ sym (wide h (search needs) (search needs) ∙ rw (lt-ltb (h .frame) 16 (omega arith), lt-ltb (h .stream) 8 (omega arith)))
+    wide-last 16 (h .bits) ∙ sym (wide h (search needs) (search needs) ∙ rw (lt-ltb (h .frame) 16 (omega arith), lt-ltb (h .stream) 8 (omega arith)))
 
 pub field-too-wide-spec : {M : Type 1} → statement M
 field-too-wide-spec = tie.close (tie.spec returns returns-2 returns-3)

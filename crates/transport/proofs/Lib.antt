@@ -1,0 +1,3 @@
+-- The laws of transport packets, for the writer and the reader.
+pub mod HeaderLaws
+pub mod LoadLaws

@@ -1,0 +1,58 @@
+-- Where the fields of a transport packet lie: 4 bytes of header, an adaptation field where there is one, the payload.
+use Prim.Native.Nat.{ℕ, _+_}
+use mathlib.Core.Bool.{Bool, cond}
+use mathlib.Core.List.{List, [], _∷_}
+use lib.Dec.{eqb}
+use lib.ListN.{getD, drop}
+use Rattle.fields.specs.Formats.{unpack}
+use Rattle.fields.specs.Numbers.{number}
+
+-- sync byte 8, transport_error_indicator 1, payload_unit_start_indicator 1, transport_priority 1, PID 13,
+-- transport_scrambling_control 2, adaptation_field_control 2, continuity_counter 4
+abbrev pub header : List ℕ
+header = 8 ∷ 1 ∷ 1 ∷ 1 ∷ 13 ∷ 2 ∷ 2 ∷ 4 ∷ []
+
+-- the header's fields; a byte that is not there counts as 0
+unfoldable pub field : ℕ → List ℕ → ℕ
+field i t = getD (unpack header (number (getD t 0 0 ∷ getD t 1 0 ∷ getD t 2 0 ∷ getD t 3 0 ∷ []))) i 0
+
+abbrev pub syncOf : List ℕ → ℕ
+syncOf t = field 0 t
+
+abbrev pub errorOf : List ℕ → ℕ
+errorOf t = field 1 t
+
+abbrev pub startOf : List ℕ → ℕ
+startOf t = field 2 t
+
+abbrev pub pidOf : List ℕ → ℕ
+pidOf t = field 4 t
+
+abbrev pub scramblingOf : List ℕ → ℕ
+scramblingOf t = field 5 t
+
+abbrev pub controlOf : List ℕ → ℕ
+controlOf t = field 6 t
+
+abbrev pub countOf : List ℕ → ℕ
+countOf t = field 7 t
+
+-- a T2-MI packet begins here
+abbrev pub starts : List ℕ → Bool
+starts t = eqb (startOf t) 1
+
+-- where the payload begins: behind the adaptation field and its length byte, where adaptation control is 11
+unfoldable pub payloadAt : List ℕ → ℕ
+payloadAt t = cond (eqb (controlOf t) 3) (5 + getD t 4 0) 4
+
+-- with a start, the payload's first byte is the pointer
+abbrev pub pointerOf : List ℕ → ℕ
+pointerOf t = getD t (payloadAt t) 0
+
+-- where the bytes of T2-MI packets begin
+unfoldable pub carriedAt : List ℕ → ℕ
+carriedAt t = cond (starts t) (payloadAt t + 1) (payloadAt t)
+
+-- the bytes of T2-MI packets that it carries
+unfoldable pub carriedBy : List ℕ → List ℕ
+carriedBy t = drop (carriedAt t) t
