@@ -1,5 +1,10 @@
 -- An answer of a crate below, laid out flat, and arguments that stand apart, put together.
 use Prim.Native.Nat.{ℕ}
+use mathlib.Core.Bool.{Bool, true, false}
+use lib.IntN.{ℤ, pos}
+use Rattle.functions.specs.declared.Function.{Function}
+use Rattle.functions.specs.declared.Function.the-variants.{TimeOffset, FrequencyOffset, Power, Private, Cell, Enable, Bandwidth, Passed}
+use Rattle.boundary.specs.declared.SfnFunction.{SfnFunction}
 use Rattle.packet.specs.declared.Packet.{Packet}
 use Rattle.stamp.specs.declared.Stamp.{Stamp}
 use Rattle.stamp.specs.declared.StampRead.{StampRead}
@@ -29,3 +34,20 @@ stampOf p =
 
 abbrev pub stampFrom : ℕ → ℕ → ℕ → ℕ → Stamp
 stampFrom bw seconds subseconds utco = record { bw = bw; seconds = seconds; subseconds = record { 0 = subseconds }; utco = utco }
+
+-- a flag as a number
+abbrev pub bitOf : Bool → ℕ
+bitOf true = 1
+bitOf false = 0
+
+-- a function by its kind: 0 to 6 as the tag, 7 for one that is passed through. With a refusal it is a time offset of 0, so
+-- that all but the number is 0
+abbrev pub functionOf : ℕ → Function → SfnFunction
+functionOf n (TimeOffset t) = record { refusal = n; value = t; kind = 0; tag = 0; wait = 0; reserved = 0 }
+functionOf n (FrequencyOffset f) = record { refusal = n; value = f; kind = 1; tag = 1; wait = 0; reserved = 0 }
+functionOf n (Power p) = record { refusal = n; value = pos p; kind = 2; tag = 2; wait = 0; reserved = 0 }
+functionOf n Private = record { refusal = n; value = pos 0; kind = 3; tag = 3; wait = 0; reserved = 0 }
+functionOf n (Cell id wait rest) = record { refusal = n; value = pos id; kind = 4; tag = 4; wait = bitOf wait; reserved = rest }
+functionOf n Enable = record { refusal = n; value = pos 0; kind = 5; tag = 5; wait = 0; reserved = 0 }
+functionOf n (Bandwidth v wait) = record { refusal = n; value = pos v; kind = 6; tag = 6; wait = bitOf wait; reserved = 0 }
+functionOf n (Passed tag) = record { refusal = n; value = pos 0; kind = 7; tag = tag; wait = 0; reserved = 0 }

@@ -1,8 +1,18 @@
 // The library as C sees it: thin functions over the crates below. A slice is a pointer and a length, and an answer a
 // struct by value. The rest of the C interface joins as its crates do.
+mod site;
+
 use carry::Carried;
+use functions::Function;
 use packet::Header;
 use refusals::Written;
+pub use site::sfn_addressing_read;
+pub use site::sfn_addressing_write;
+pub use site::sfn_emission;
+pub use site::sfn_extra_delay;
+pub use site::sfn_mip_read;
+pub use site::sfn_mip_write;
+pub use site::sfn_walk;
 use stamp::Stamp;
 use stamp::Subseconds;
 ghost use mathlib.Core.Path.{_≡_};
@@ -10,9 +20,13 @@ ghost use Rattle.crc.specs.Crc.{crcOf};
 ghost use Rattle.packet.specs.Read.{readOf};
 ghost use Rattle.packet.specs.Write.{writeOf};
 ghost use Rattle.carry.specs.Carry.{carryOf};
+ghost use Rattle.functions.specs.Read.{functionRead};
 ghost use Rattle.stamp.specs.Read.{readOf as stampRead};
 ghost use Rattle.stamp.specs.Write.{writeOf as stampWritten};
-ghost use Rattle.boundary.specs.Answers.{packetOf, stampOf, stampFrom};
+ghost use Rattle.boundary.specs.Answers.{packetOf, stampOf, stampFrom, bitOf, functionOf};
+ghost use Rattle.boundary.specs.Making.{naturalOf, offsetMade, waitingMade, powerMade, madeOf, functionWritten};
+ghost use Rattle.functions.specs.Write.{beyondSigned};
+ghost use lib.ListN.{length};
 
 // What reading a T2-MI packet gives, with the header's fields beside the refusal.
 #[repr(C)]
@@ -120,4 +134,241 @@ pub extern "C" fn sfn_carry(pid: u16, first_count: u8, batch: &[u8], out: &mut [
     ensures { λ r. ⌜ record { answer = r; out = now (out .exit) } ≡ carryOf pid «first_count» (now (batch .entry)) (now (out .entry)) ⌝ }
 {
     carry::carry(pid, first_count, batch, out)
+}
+
+// What reading a function's body gives. kind is 0 to 6 as the tag, and 7 for a function that is passed through.
+#[repr(C)]
+pub struct SfnFunction {
+    pub refusal: u32,
+    pub value: i32,
+    pub kind: u8,
+    pub tag: u8,
+    pub wait: u8,
+    pub reserved: u8,
+}
+
+// A flag as a number.
+fn bit(b: bool) -> u8
+    ensures { λ r. ⌜ r ≡ bitOf b ⌝ }
+{
+    if b {
+        return 1;
+    }
+    0
+}
+
+// A function laid out flat; fields that its kind does not have are 0.
+fn flat(refusal: u32, f: Function) -> SfnFunction
+    ensures { λ r. ⌜ r ≡ functionOf refusal f ⌝ }
+{
+    match f {
+        Function::TimeOffset(t) => SfnFunction {
+            refusal,
+            value: t as i32,
+            kind: 0,
+            tag: 0,
+            wait: 0,
+            reserved: 0,
+        },
+        Function::FrequencyOffset(t) => SfnFunction {
+            refusal,
+            value: t,
+            kind: 1,
+            tag: 1,
+            wait: 0,
+            reserved: 0,
+        },
+        Function::Power(p) => SfnFunction {
+            refusal,
+            value: p as i32,
+            kind: 2,
+            tag: 2,
+            wait: 0,
+            reserved: 0,
+        },
+        Function::Private => SfnFunction {
+            refusal,
+            value: 0,
+            kind: 3,
+            tag: 3,
+            wait: 0,
+            reserved: 0,
+        },
+        Function::Cell { id, wait, reserved } => {
+            let wait = bit(wait);
+            SfnFunction {
+                refusal,
+                value: id as i32,
+                kind: 4,
+                tag: 4,
+                wait,
+                reserved,
+            }
+        }
+        Function::Enable => SfnFunction {
+            refusal,
+            value: 0,
+            kind: 5,
+            tag: 5,
+            wait: 0,
+            reserved: 0,
+        },
+        Function::Bandwidth { value, wait } => {
+            let wait = bit(wait);
+            SfnFunction {
+                refusal,
+                value: value as i32,
+                kind: 6,
+                tag: 6,
+                wait,
+                reserved: 0,
+            }
+        }
+        Function::Passed(tag) => SfnFunction {
+            refusal,
+            value: 0,
+            kind: 7,
+            tag,
+            wait: 0,
+            reserved: 0,
+        },
+    }
+}
+
+#[no_mangle]
+pub extern "C" fn sfn_function_read(tag: u8, body: &[u8]) -> SfnFunction
+    ensures { λ r. ⌜ r ≡ functionOf (functionRead tag (now (body .entry)) .refusal) (functionRead tag (now (body .entry)) .function) ⌝ }
+{
+    let answer = functions::function_read(tag, body);
+    let f = answer.function;
+    flat(answer.refusal, f)
+}
+
+// What the arguments of sfn_function_write make: a function, or none, for which 38 is answered.
+pub enum Made {
+    Unfit,
+    Fit(Function),
+}
+
+// A number that is not negative as it is; a negative one as more than any field holds.
+fn natural(value: i32) -> u32
+    ensures { λ r. ⌜ r ≡ naturalOf value ⌝ }
+{
+    if value < 0 {
+        return 0xffff_ffff;
+    }
+    value as u32
+}
+
+// Whether a number is beyond 16 bits in two's complement.
+fn beyond_16(value: i32) -> bool
+    ensures { λ r. ⌜ r ≡ beyondSigned 16 value ⌝ }
+{
+    if value < -0x8000 {
+        return true;
+    }
+    0x7fff < value
+}
+
+// A time offset.
+fn offset(value: i32) -> Made
+    ensures { λ r. ⌜ r ≡ offsetMade value ⌝ }
+{
+    if beyond_16(value) {
+        return Made::Unfit;
+    }
+    Made::Fit(Function::TimeOffset(value as i16))
+}
+
+// A function with a wait flag: a cell or a bandwidth of the value v.
+fn waiting(kind: u8, v: u32, wait: u8, reserved: u8) -> Made
+    ensures { λ r. ⌜ r ≡ waitingMade kind v wait reserved ⌝ }
+{
+    if 1 < wait {
+        return Made::Unfit;
+    }
+    let waits = wait == 1;
+    if kind == 4 {
+        if 65535 < v {
+            return Made::Unfit;
+        }
+        let id = v as u16;
+        return Made::Fit(Function::Cell {
+            id,
+            wait: waits,
+            reserved,
+        });
+    }
+    if kind != 6 {
+        return Made::Unfit;
+    }
+    if 255 < v {
+        return Made::Unfit;
+    }
+    let value = v as u8;
+    Made::Fit(Function::Bandwidth { value, wait: waits })
+}
+
+// A power.
+fn power(v: u32) -> Made
+    ensures { λ r. ⌜ r ≡ powerMade v ⌝ }
+{
+    if 65535 < v {
+        return Made::Unfit;
+    }
+    Made::Fit(Function::Power(v as u16))
+}
+
+// The function that C's arguments make, where n bytes come with them: a tag like its kind, no bytes but for the kinds that
+// carry a body, and values that fit.
+fn function_from(kind: u8, tag: u8, value: i32, wait: u8, reserved: u8, n: usize) -> Made
+    ensures { λ r. ⌜ r ≡ madeOf kind tag value wait reserved n ⌝ }
+{
+    if kind == 7 {
+        return Made::Fit(Function::Passed(tag));
+    }
+    if tag != kind {
+        return Made::Unfit;
+    }
+    if kind == 3 {
+        return Made::Fit(Function::Private);
+    }
+    if kind == 5 {
+        return Made::Fit(Function::Enable);
+    }
+    if 0 < n {
+        return Made::Unfit;
+    }
+    if kind == 0 {
+        return offset(value);
+    }
+    if kind == 1 {
+        return Made::Fit(Function::FrequencyOffset(value));
+    }
+    let v = natural(value);
+    if kind == 2 {
+        return power(v);
+    }
+    waiting(kind, v, wait, reserved)
+}
+
+#[no_mangle]
+pub extern "C" fn sfn_function_write(
+    kind: u8,
+    tag: u8,
+    value: i32,
+    wait: u8,
+    reserved: u8,
+    bytes: &[u8],
+    out: &mut [u8],
+) -> Written
+    ensures { λ r. ⌜ record { answer = r; out = now (out .exit) } ≡ functionWritten (madeOf kind tag value wait reserved (length (now (bytes .entry)))) (now (bytes .entry)) (now (out .entry)) ⌝ }
+{
+    match function_from(kind, tag, value, wait, reserved, bytes.len()) {
+        Made::Unfit => Written {
+            refusal: refusals::TOO_WIDE_OR_UNFIT_STATE,
+            bytes: 0,
+        },
+        Made::Fit(f) => functions::function_write(f, bytes, out),
+    }
 }

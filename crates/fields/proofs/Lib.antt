@@ -6,3 +6,5 @@ pub mod NumberLaws
 pub mod SignedLaws
 pub mod Complement
 pub mod PartLaws
+pub mod ByteFormatLaws
+pub mod LaidLaws

@@ -1,0 +1,63 @@
+-- Addressing, the MIP and site timing, laid out flat, and a MIP's arguments put together.
+use Prim.Native.Nat.{ℕ}
+use mathlib.Core.Bool.{Bool, cond}
+use mathlib.Core.List.{List}
+use lib.Dec.{eqb, ltb}
+use lib.ListN.{length}
+use Rattle.refusals.specs.Answers.{Wrote}
+use Rattle.addressing.specs.declared.PayloadRead.{PayloadRead}
+use Rattle.addressing.specs.declared.Step.{Step}
+use Rattle.addressing.specs.declared.Step.the-variants.{Given, End}
+use Rattle.mip.specs.Write.{writeOf}
+use Rattle.mip.specs.declared.MipRead.{MipRead}
+use Rattle.mip.specs.declared.Time.{Time}
+use Rattle.boundary.specs.Answers.{bitOf}
+use Rattle.boundary.specs.declared.site.SfnAddressing.{SfnAddressing}
+use Rattle.boundary.specs.declared.site.SfnWalked.{SfnWalked}
+use Rattle.boundary.specs.declared.site.SfnMip.{SfnMip}
+use Rattle.boundary.specs.declared.site.SfnTime.{SfnTime}
+
+-- a count in 32 bits: itself, and never wrapped
+unfoldable pub counted : ℕ → ℕ
+counted n = cond (ltb 0xffffffff n) 0xffffffff n
+
+abbrev pub addressingOf : PayloadRead → SfnAddressing
+addressingOf p = record { refusal = p .refusal; bytes = counted (p .bytes) }
+
+abbrev pub walkedOf : ℕ → ℕ → Step → SfnWalked
+walkedOf n next (Given tag start body) =
+    record { refusal = n; start = counted start; body = counted body; next = counted next; given = 1; tag = tag }
+walkedOf n next End = record { refusal = n; start = 0; body = 0; next = counted next; given = 0; tag = 0 }
+
+abbrev pub mipFlat : MipRead → SfnMip
+mipFlat p =
+    record {
+      refusal = p .refusal;
+      stamp = p .mip .stamp .0;
+      delay = p .mip .delay .0;
+      tps = p .mip .tps;
+      addressing = counted (p .addressing);
+      pointer = p .mip .pointer;
+      future = p .mip .future;
+      count = p .mip .count;
+      periodic = bitOf (p .mip .periodic);
+    }
+
+-- a periodic over 1 is too wide for its bit: 38, in its turn after 36
+abbrev pub mipWritten : ℕ → ℕ → ℕ → ℕ → ℕ → ℕ → ℕ → List ℕ → List ℕ → Wrote
+mipWritten count pointer periodic future stamp delay tps d out =
+    cond (ltb 1 periodic)
+    (record { answer = record { refusal = cond (ltb 163 (length d)) 36 38; bytes = 0 }; out = out })
+    (writeOf
+    (record {
+      count = count;
+      pointer = pointer;
+      periodic = eqb periodic 1;
+      future = future;
+      stamp = record { 0 = stamp };
+      delay = record { 0 = delay };
+      tps = tps;
+    }) d out)
+
+abbrev pub timeOf : Time → SfnTime
+timeOf t = record { refusal = t .refusal; steps = t .steps .0 }

@@ -1,0 +1,59 @@
+-- Writing a MIP (01: 36, 38, 33, 34, the check of the addressing data, 16).
+use Prim.Native.Nat.{ℕ, _-_}
+use mathlib.Core.Bool.{Bool, true, cond, not}
+use mathlib.Core.List.{List, [], _∷_, _++_}
+use lib.Dec.{eqb, leb, ltb}
+use lib.ListN.{length, replicate}
+use Rattle.crc.specs.Crc.{crcOf}
+use Rattle.fields.specs.Formats.{pack, tooWide}
+use Rattle.fields.specs.Numbers.{bytes}
+use Rattle.refusals.specs.Checks.{Check, _when_}
+use Rattle.refusals.specs.Answers.{Wrote, written}
+use Rattle.addressing.specs.Data.{faultOf}
+use Rattle.mip.specs.Layout.{transportHeader, parameters, sectionOf, crcEnd, second}
+use Rattle.mip.specs.declared.Mip.{Mip}
+
+abbrev pub flag : Bool → ℕ
+flag b = cond b 1 0
+
+-- the fields in table 1b's order
+abbrev pub headerFields : Mip → List ℕ
+headerFields m = 0x47 ∷ 0 ∷ 1 ∷ 1 ∷ 0x15 ∷ 0 ∷ 1 ∷ m .count ∷ []
+
+abbrev pub parameterFields : Mip → ℕ → List ℕ
+parameterFields m addressing =
+    0 ∷ sectionOf addressing ∷ m .pointer ∷ flag (m .periodic) ∷ m .future ∷ m .stamp .0 ∷ m .delay .0 ∷ m .tps ∷ addressing ∷ []
+
+-- the header and the parameters
+unfoldable pub leadBytes : Mip → ℕ → List ℕ
+leadBytes m addressing =
+    bytes 4 (pack transportHeader (headerFields m)) ++ bytes 17 (pack parameters (parameterFields m addressing))
+
+-- all before the CRC
+unfoldable pub frontBytes : Mip → List ℕ → List ℕ
+frontBytes m d = leadBytes m (length d) ++ d
+
+-- the whole packet: the CRC is over all bytes before it, and stuffing fills up to 188
+unfoldable pub mipBytes : Mip → List ℕ → List ℕ
+mipBytes m d =
+    (frontBytes m d ++ bytes 4 (crcOf (frontBytes m d))) ++ replicate (188 - crcEnd (length d)) 0xFF
+
+-- a field is too wide for its bits (01, refusal 38)
+unfoldable pub fieldWide : Mip → ℕ → Bool
+fieldWide m addressing =
+    cond (tooWide transportHeader (headerFields m)) true (tooWide parameters (parameterFields m addressing))
+
+-- `room` is how many bytes the output has
+unfoldable pub writeChecks : Mip → List ℕ → ℕ → List Check
+writeChecks m d room =
+    36 when ltb 163 (length d)
+    ∷ 38 when fieldWide m (length d)
+    ∷ 33 when leb second (m .stamp .0)
+    ∷ 34 when leb second (m .delay .0)
+    ∷ faultOf d when not (eqb (faultOf d) 0)
+    ∷ 16 when ltb room 188
+    ∷ []
+
+-- the answer, and what the output then holds
+unfoldable pub writeOf : Mip → List ℕ → List ℕ → Wrote
+writeOf m d out = written (writeChecks m d (length out)) (mipBytes m d) out
