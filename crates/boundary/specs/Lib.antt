@@ -2,3 +2,4 @@
 pub mod Answers
 pub mod Making
 pub mod Site
+pub mod Reader

@@ -1,10 +1,13 @@
 // The library as C sees it: thin functions over the crates below. A slice is a pointer and a length, and an answer a
-// struct by value. The rest of the C interface joins as its crates do.
+// struct by value.
+mod reader;
 mod site;
 
 use carry::Carried;
 use functions::Function;
 use packet::Header;
+pub use reader::sfn_gather;
+pub use reader::sfn_start;
 use refusals::Written;
 pub use site::sfn_addressing_read;
 pub use site::sfn_addressing_write;
@@ -24,6 +27,7 @@ ghost use Rattle.functions.specs.Read.{functionRead};
 ghost use Rattle.stamp.specs.Read.{readOf as stampRead};
 ghost use Rattle.stamp.specs.Write.{writeOf as stampWritten};
 ghost use Rattle.boundary.specs.Answers.{packetOf, stampOf, stampFrom, bitOf, functionOf};
+ghost use Rattle.boundary.specs.Site.{counted};
 ghost use Rattle.boundary.specs.Making.{naturalOf, offsetMade, waitingMade, powerMade, madeOf, functionWritten};
 ghost use Rattle.functions.specs.Write.{beyondSigned};
 ghost use lib.ListN.{length};
@@ -145,6 +149,16 @@ pub struct SfnFunction {
     pub tag: u8,
     pub wait: u8,
     pub reserved: u8,
+}
+
+// A count of bytes in 32 bits. What is counted is a few thousand at most; nothing wraps.
+fn count_32(n: usize) -> u32
+    ensures { λ r. ⌜ r ≡ counted n ⌝ }
+{
+    if 0xffff_ffff < n {
+        return 0xffff_ffff;
+    }
+    n as u32
 }
 
 // A flag as a number.

@@ -1,5 +1,6 @@
 // Addressing, the MIP and site timing, as C sees them.
 use super::bit;
+use super::count_32;
 use addressing::Step;
 use mip::Mip;
 use mip::Steps;
@@ -10,7 +11,7 @@ ghost use Rattle.addressing.specs.Payload.{payloadOf, writeOf as addressingWrit
 ghost use Rattle.addressing.specs.Walk.{walkOf};
 ghost use Rattle.mip.specs.Read.{readOf as mipRead};
 ghost use Rattle.mip.specs.Timing.{emissionOf, extraOf};
-ghost use Rattle.boundary.specs.Site.{counted, addressingOf, walkedOf, mipFlat, mipWritten, timeOf};
+ghost use Rattle.boundary.specs.Site.{addressingOf, walkedOf, mipFlat, mipWritten, timeOf};
 
 // What reading an addressing payload gives. Its data begins at byte 2.
 #[repr(C)]
@@ -49,16 +50,6 @@ pub struct SfnMip {
 pub struct SfnTime {
     pub refusal: u32,
     pub steps: u32,
-}
-
-// A count of bytes in 32 bits. What is counted here is at most 255; a larger count would never wrap.
-fn count_32(n: usize) -> u32
-    ensures { λ r. ⌜ r ≡ counted n ⌝ }
-{
-    if 0xffff_ffff < n {
-        return 0xffff_ffff;
-    }
-    n as u32
 }
 
 #[no_mangle]

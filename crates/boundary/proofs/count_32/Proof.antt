@@ -1,10 +1,10 @@
--- `boundary::site::count_32` meets its contract: a test, and a cast of what fits.
+-- `boundary::count_32` meets its contract: a test, and a cast of what fits.
 -- Assumes nothing.
 use borrow.Author.Needs.{needs}
 use borrow.Author.Tests.{lt-ltb, le-ltb}
 use Rattle.boundary.specs.Site.{counted}
-use Rattle.boundary.proofs.site.count_32.Statement.{statement}
-use Rattle.boundary.proofs.site.count_32.Tie as tie
+use Rattle.boundary.proofs.count_32.Statement.{statement}
+use Rattle.boundary.proofs.count_32.Tie as tie
 
 returns : tie.Need-returns
 unfolding counted

@@ -1,0 +1,18 @@
+-- `boundary::reader::last_from` meets its contract: one test.
+-- Assumes nothing.
+use borrow.Author.Needs.{needs}
+use borrow.Author.Tests.{eq-eqb, ne-eqb}
+use Rattle.boundary.specs.Reader.{lastFrom}
+use Rattle.boundary.proofs.reader.last_from.Statement.{statement}
+use Rattle.boundary.proofs.reader.last_from.Tie as tie
+
+returns : tie.Need-returns
+unfolding lastFrom
+returns c = rw (eq-eqb _ _ (c .if1 .taken))
+
+returns-2 : tie.Need-returns-2
+unfolding lastFrom
+returns-2 c = rw (ne-eqb _ _ (c .if1 .left))
+
+pub last-from-spec : {M : Type 1} → statement M
+last-from-spec = tie.close (tie.spec returns returns-2)

@@ -1,0 +1,116 @@
+-- What is handed out: whole packets with good CRCs, of the waiting bytes and of the transport packet's, in order; and where
+-- the caller finds them.
+-- Assumes nothing.
+use mathlib.Core.Path.{_≡_, refl, sym, ap, _∙_}
+use mathlib.Core.Bool.{false}
+use mathlib.Core.List.{List, [], _∷_, _++_, append-nil}
+use Prim.Native.Nat.{ℕ, _<_}
+use lib.ListN.{take}
+use Rattle.fields.proofs.Cases.{cases}
+use Rattle.fields.proofs.PartLaws.{take-front}
+use Rattle.packet.specs.Layout.{sizeOf}
+use Rattle.packet.specs.Cut.{Cut, cut, joined}
+use Rattle.packet.proofs.CutLaws.{AllWhole, cut-cuts, first-whole, after, cut-joined, cut-nil}
+use Rattle.gather.specs.State.{unfit}
+use Rattle.gather.specs.Rules.{Brought, broughtBy, Hand, upToStart, unfinished, follows, rulesOn}
+use Rattle.gather.specs.Gather.{inHand, enteredOf, resultOf, takenOf}
+use Rattle.gather.specs.Theorems.{Front, nothing, finished-one, HandedOut}
+use Rattle.gather.specs.declared.Reader.{Reader}
+use Rattle.gather.proofs.JoinLaws.{front}
+use Rattle.gather.proofs.StartLaws.{unfinished-packets, follows-packets}
+use Rattle.gather.proofs.StateLaws.{rule-cases, result-order}
+
+-- ---- whence the packets come
+
+front-whole : {w d : List ℕ} {ps : List (List ℕ)} → Front w d ps → AllWhole ps
+front-whole {w} {d} nothing = tt
+front-whole {w} {d} (finished-one k c) = (first-whole (w ++ d) k c, tt)
+
+whole-append : (ps qs : List (List ℕ)) → AllWhole ps → AllWhole qs → AllWhole (ps ++ qs)
+whole-append [] qs a b = b
+whole-append (p ∷ ps) qs a b = (a .0, whole-append ps qs (a .1) b)
+
+module _ (b : Brought) (h : Hand) (p : h .packets ≡ []) where
+  abbrev f : Hand
+  f = upToStart (b .before) h
+
+  joined-one : Front (h .waiting) (b .before) (f .packets)
+  joined-one = front (b .before) h p
+
+  with-others : follows (b .onward) (unfinished f) .packets ≡ f .packets ++ cut (b .onward) .packets
+  with-others =
+      follows-packets (b .onward) (unfinished f) ∙ ap (λ (x : List (List ℕ)). x ++ cut (b .onward) .packets) (unfinished-packets f)
+
+  pub handed-out : HandedOut (h .waiting) (b .before) (b .onward) (rulesOn b h .packets)
+  unfolding rulesOn joined
+  handed-out =
+      cases (b .begins)
+      (λ e. rw e
+      (record {
+        one = f .packets;
+        others = cut (b .onward) .packets;
+        rest = cut (b .onward) .rest;
+        is = with-others;
+        joins = joined-one;
+        follow = cut-cuts (b .onward) .bytes;
+      }))
+      (λ e. rw e
+      (record {
+        one = f .packets;
+        others = [];
+        rest = b .onward;
+        is = sym (append-nil (f .packets));
+        joins = joined-one;
+        follow = refl;
+      }))
+
+  -- only whole packets whose CRC holds
+  pub handed-whole : AllWhole (rulesOn b h .packets)
+  unfolding rulesOn
+  handed-whole =
+      cases (b .begins)
+      (λ e. rw (e, with-others) (whole-append (f .packets) (cut (b .onward) .packets) (front-whole joined-one) (cut-cuts (b .onward) .whole)))
+      (λ e. rw e (front-whole joined-one))
+
+-- rule 1 hands nothing out
+pub entered-none : (s : Reader) (t g : List ℕ) → enteredOf s t g .packets ≡ []
+entered-none s t g = rule-cases (λ h. h .packets ≡ []) (s .last) (broughtBy t .count) (inHand s g) refl refl (λ r. refl)
+
+pub result-handed : (s : Reader) (t g : List ℕ) → HandedOut (enteredOf s t g .waiting) (broughtBy t .before) (broughtBy t .onward) (resultOf s t g .packets)
+result-handed s t g = handed-out (broughtBy t) (enteredOf s t g) (entered-none s t g)
+
+pub result-whole : (s : Reader) (t g : List ℕ) → AllWhole (resultOf s t g .packets)
+result-whole s t g = handed-whole (broughtBy t) (enteredOf s t g) (entered-none s t g)
+
+-- ---- where they lie
+
+after-none : (ps : List (List ℕ)) → after ps (cut []) .packets ≡ ps
+after-none [] = rw cut-nil
+after-none (p ∷ ps) = ap (λ (x : List (List ℕ)). p ∷ x) (after-none ps)
+
+pub cut-whole-all : (ps : List (List ℕ)) → AllWhole ps → cut (joined ps) .packets ≡ ps
+cut-whole-all ps w =
+    ap (λ (l : List ℕ). cut l .packets) (sym (append-nil (joined ps))) ∙ ap (λ (x : Cut). x .packets) (cut-joined ps [] w) ∙ after-none ps
+
+module _ (s : Reader) (t g o : List ℕ) where
+  -- the written bytes are the packets back to back, and are cut into them again
+  pub taken-bytes : take (takenOf s t g o .answer .bytes) (takenOf s t g o .output) ≡ joined (resultOf s t g .packets)
+  unfolding takenOf
+  taken-bytes = take-front (joined (resultOf s t g .packets)) o
+
+  pub taken-cut : cut (take (takenOf s t g o .answer .bytes) (takenOf s t g o .output)) .packets ≡ resultOf s t g .packets
+  taken-cut = ap (λ (l : List ℕ). cut l .packets) taken-bytes ∙ cut-whole-all (resultOf s t g .packets) (result-whole s t g)
+
+  -- what waits lies at the front of the gathering buffer, is not finished, and is what the next call finds
+  pub taken-holds : take (takenOf s t g o .answer .reader .waiting) (takenOf s t g o .gathering) ≡ resultOf s t g .waiting
+  unfolding takenOf
+  taken-holds = take-front (resultOf s t g .waiting) _
+
+  pub taken-short : unfit s ≡ false → takenOf s t g o .answer .reader .waiting < sizeOf (take (takenOf s t g o .answer .reader .waiting) (takenOf s t g o .gathering))
+  unfolding takenOf
+  taken-short u = rw taken-holds (result-order s t g u .short)
+
+  pub taken-next : inHand (takenOf s t g o .answer .reader) (takenOf s t g o .gathering)
+      ≡ record { step = resultOf s t g .step; waiting = resultOf s t g .waiting; packets = []; loss = false; misfit = false; crc = false }
+  unfolding takenOf
+  taken-next = rw taken-holds

@@ -1,0 +1,54 @@
+-- `gather::Reader::enter` meets its contract: each return is one case of rule 1.
+-- Assumes nothing.
+use borrow.Author.Needs.{needs}
+use denote.Ref.{now}
+use lib.Seq.{length-take-le}
+use mathlib.Core.Path.{sym, ap, _∙_}
+use Rattle.packet.specs.Cut.{joined}
+use Rattle.gather.specs.Gather.{inHand}
+use Rattle.gather.specs.Phases.{numbers}
+use Rattle.gather.proofs.EnterLaws.{rule-lost, rule-altered, rule-kept}
+use Rattle.gather.proofs.Reader.enter.Statement.{statement}
+use Rattle.gather.proofs.Reader.enter.Tie as tie
+
+out-of-turn-requires : tie.Need-out-of-turn-requires
+out-of-turn-requires c κs = search needs
+
+lost-requires : tie.Need-lost-requires
+lost-requires c κs = search needs
+
+returns : tie.Need-returns
+unfolding joined
+returns c =
+    let a = c .before .before .before .before .args in
+    c .lost .ensures ∙ ap numbers (sym (rule-lost (a .self .last) (a .count) (inHand (a .self) (now (a .gathering))) (sym (c .before .before .out-of-turn .ensures) ∙ c .before .if1 .taken)))
+
+reached-requires : tie.Need-reached-requires
+reached-requires c κs = search needs
+
+misfits-requires : tie.Need-misfits-requires
+misfits-requires c κs = search needs
+
+returns-2 : tie.Need-returns-2
+unfolding joined
+returns-2 c =
+    let a = c .before .before .before .before .before .before .args in
+    c .misfits .ensures ∙ ap numbers (sym (rule-altered (a .self .last) (a .count) (inHand (a .self) (now (a .gathering))) (sym (c .before .before .before .before .out-of-turn .ensures) ∙ c .before .before .before .if1 .left) (sym (c .before .before .reached .ensures) ∙ c .before .if2 .taken)))
+
+returns-3 : tie.Need-returns-3
+unfolding joined
+returns-3 c =
+    let a = c .before .before .before .before .before .args in
+    rw (rule-kept (a .self .last) (a .count) (inHand (a .self) (now (a .gathering))) (sym (c .before .before .before .out-of-turn .ensures) ∙ c .before .before .if1 .left) (sym (c .before .reached .ensures) ∙ c .if2 .left), length-take-le (a .self .waiting) (now (a .gathering)) (search needs))
+
+pub enter-spec : {M : Type 1} → statement M
+enter-spec =
+    tie.close
+    (tie.spec
+    out-of-turn-requires
+    lost-requires
+    returns
+    reached-requires
+    misfits-requires
+    returns-2
+    returns-3)

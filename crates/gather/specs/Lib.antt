@@ -1,0 +1,6 @@
+-- Carriage: the gathering reader (01, "Carriage: the reader").
+pub mod State
+pub mod Rules
+pub mod Gather
+pub mod Phases
+pub mod Theorems
