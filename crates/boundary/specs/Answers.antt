@@ -40,14 +40,18 @@ abbrev pub bitOf : Bool → ℕ
 bitOf true = 1
 bitOf false = 0
 
+-- a function that has a tag of the table: its kind is its tag
+abbrev pub ofKind : ℕ → ℕ → ℤ → ℕ → ℕ → SfnFunction
+ofKind n kind value wait rest = record { refusal = n; value = value; kind = kind; tag = kind; wait = wait; reserved = rest }
+
 -- a function by its kind: 0 to 6 as the tag, 7 for one that is passed through. With a refusal it is a time offset of 0, so
 -- that all but the number is 0
 abbrev pub functionOf : ℕ → Function → SfnFunction
-functionOf n (TimeOffset t) = record { refusal = n; value = t; kind = 0; tag = 0; wait = 0; reserved = 0 }
-functionOf n (FrequencyOffset f) = record { refusal = n; value = f; kind = 1; tag = 1; wait = 0; reserved = 0 }
-functionOf n (Power p) = record { refusal = n; value = pos p; kind = 2; tag = 2; wait = 0; reserved = 0 }
-functionOf n Private = record { refusal = n; value = pos 0; kind = 3; tag = 3; wait = 0; reserved = 0 }
-functionOf n (Cell id wait rest) = record { refusal = n; value = pos id; kind = 4; tag = 4; wait = bitOf wait; reserved = rest }
-functionOf n Enable = record { refusal = n; value = pos 0; kind = 5; tag = 5; wait = 0; reserved = 0 }
-functionOf n (Bandwidth v wait) = record { refusal = n; value = pos v; kind = 6; tag = 6; wait = bitOf wait; reserved = 0 }
+functionOf n (TimeOffset t) = ofKind n 0 t 0 0
+functionOf n (FrequencyOffset f) = ofKind n 1 f 0 0
+functionOf n (Power p) = ofKind n 2 (pos p) 0 0
+functionOf n Private = ofKind n 3 (pos 0) 0 0
+functionOf n (Cell id wait rest) = ofKind n 4 (pos id) (bitOf wait) rest
+functionOf n Enable = ofKind n 5 (pos 0) 0 0
+functionOf n (Bandwidth v wait) = ofKind n 6 (pos v) (bitOf wait) 0
 functionOf n (Passed tag) = record { refusal = n; value = pos 0; kind = 7; tag = tag; wait = 0; reserved = 0 }

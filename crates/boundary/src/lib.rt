@@ -26,7 +26,7 @@ ghost use Rattle.carry.specs.Carry.{carryOf};
 ghost use Rattle.functions.specs.Read.{functionRead};
 ghost use Rattle.stamp.specs.Read.{readOf as stampRead};
 ghost use Rattle.stamp.specs.Write.{writeOf as stampWritten};
-ghost use Rattle.boundary.specs.Answers.{packetOf, stampOf, stampFrom, bitOf, functionOf};
+ghost use Rattle.boundary.specs.Answers.{packetOf, stampOf, stampFrom, bitOf, ofKind, functionOf};
 ghost use Rattle.boundary.specs.Site.{counted};
 ghost use Rattle.boundary.specs.Making.{naturalOf, offsetMade, waitingMade, powerMade, madeOf, functionWritten};
 ghost use Rattle.functions.specs.Write.{beyondSigned};
@@ -171,72 +171,37 @@ fn bit(b: bool) -> u8
     0
 }
 
+// A function that has a tag of the table, by its fields: its kind is its tag.
+fn of_kind(refusal: u32, kind: u8, value: i32, wait: u8, reserved: u8) -> SfnFunction
+    ensures { λ r. ⌜ r ≡ ofKind refusal kind value wait reserved ⌝ }
+{
+    SfnFunction {
+        refusal,
+        value,
+        kind,
+        tag: kind,
+        wait,
+        reserved,
+    }
+}
+
 // A function laid out flat; fields that its kind does not have are 0.
 fn flat(refusal: u32, f: Function) -> SfnFunction
     ensures { λ r. ⌜ r ≡ functionOf refusal f ⌝ }
 {
     match f {
-        Function::TimeOffset(t) => SfnFunction {
-            refusal,
-            value: t as i32,
-            kind: 0,
-            tag: 0,
-            wait: 0,
-            reserved: 0,
-        },
-        Function::FrequencyOffset(t) => SfnFunction {
-            refusal,
-            value: t,
-            kind: 1,
-            tag: 1,
-            wait: 0,
-            reserved: 0,
-        },
-        Function::Power(p) => SfnFunction {
-            refusal,
-            value: p as i32,
-            kind: 2,
-            tag: 2,
-            wait: 0,
-            reserved: 0,
-        },
-        Function::Private => SfnFunction {
-            refusal,
-            value: 0,
-            kind: 3,
-            tag: 3,
-            wait: 0,
-            reserved: 0,
-        },
+        Function::TimeOffset(t) => of_kind(refusal, 0, t as i32, 0, 0),
+        Function::FrequencyOffset(t) => of_kind(refusal, 1, t, 0, 0),
+        Function::Power(p) => of_kind(refusal, 2, p as i32, 0, 0),
+        Function::Private => of_kind(refusal, 3, 0, 0, 0),
         Function::Cell { id, wait, reserved } => {
             let wait = bit(wait);
-            SfnFunction {
-                refusal,
-                value: id as i32,
-                kind: 4,
-                tag: 4,
-                wait,
-                reserved,
-            }
+            of_kind(refusal, 4, id as i32, wait, reserved)
         }
-        Function::Enable => SfnFunction {
-            refusal,
-            value: 0,
-            kind: 5,
-            tag: 5,
-            wait: 0,
-            reserved: 0,
-        },
+        Function::Enable => of_kind(refusal, 5, 0, 0, 0),
         Function::Bandwidth { value, wait } => {
             let wait = bit(wait);
-            SfnFunction {
-                refusal,
-                value: value as i32,
-                kind: 6,
-                tag: 6,
-                wait,
-                reserved: 0,
-            }
+            of_kind(refusal, 6, value as i32, wait, 0)
         }
         Function::Passed(tag) => SfnFunction {
             refusal,

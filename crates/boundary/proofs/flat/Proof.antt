@@ -9,7 +9,7 @@ use mir.Val.{SFits, toZ, ofZ}
 use mir.ValLaws.{toZ-ofZ, toZ-pos}
 use Prim.Native.Nat.{ℕ, _^_, _<_}
 use native.Mathlib.Omega.{arith}
-use Rattle.boundary.specs.Answers.{functionOf}
+use Rattle.boundary.specs.Answers.{ofKind, functionOf}
 use Rattle.boundary.proofs.flat.Statement.{statement}
 use Rattle.boundary.proofs.flat.Tie as tie
 
@@ -29,21 +29,33 @@ in16 c = search needs
 enum-known-f : tie.Need-enum-known-f
 enum-known-f c = search needs
 
-cast-t15 : tie.Need-cast-t15
-cast-t15 c =
+cast-of-kind : tie.Need-cast-of-kind
+cast-of-kind c =
     subst (SFits w32) (sym (toZ-ofZ w16 _ (in16 c))) (widen (c .before .f .given .0 .0) (in16 c))
+
+of-kind-requires : tie.Need-of-kind-requires
+of-kind-requires c κs = search needs
 
 enum-known-f-2 : tie.Need-enum-known-f-2
 enum-known-f-2 c = search needs
 
+of-kind-requires-2 : tie.Need-of-kind-requires-2
+of-kind-requires-2 c κs = search needs
+
 enum-known-f-3 : tie.Need-enum-known-f-3
 enum-known-f-3 c = search needs
 
-cast-t16 : tie.Need-cast-t16
-cast-t16 c = search needs
+cast-of-kind-2 : tie.Need-cast-of-kind-2
+cast-of-kind-2 c = search needs
+
+of-kind-requires-3 : tie.Need-of-kind-requires-3
+of-kind-requires-3 c κs = search needs
 
 enum-told : tie.Need-enum-told
 enum-told c = search needs
+
+of-kind-requires-4 : tie.Need-of-kind-requires-4
+of-kind-requires-4 c κs = search needs
 
 enum-known-f-4 : tie.Need-enum-known-f-4
 enum-known-f-4 c = search needs
@@ -51,11 +63,17 @@ enum-known-f-4 c = search needs
 bit-requires : tie.Need-bit-requires
 bit-requires c κs = search needs
 
-cast-t17 : tie.Need-cast-t17
-cast-t17 c = search needs
+cast-of-kind-3 : tie.Need-cast-of-kind-3
+cast-of-kind-3 c = search needs
+
+of-kind-requires-5 : tie.Need-of-kind-requires-5
+of-kind-requires-5 c κs = search needs
 
 enum-told-2 : tie.Need-enum-told-2
 enum-told-2 c = search needs
+
+of-kind-requires-6 : tie.Need-of-kind-requires-6
+of-kind-requires-6 c κs = search needs
 
 enum-known-f-5 : tie.Need-enum-known-f-5
 enum-known-f-5 c = search needs
@@ -63,48 +81,58 @@ enum-known-f-5 c = search needs
 bit-requires-2 : tie.Need-bit-requires-2
 bit-requires-2 c κs = search needs
 
-cast-t18 : tie.Need-cast-t18
-cast-t18 c = search needs
+cast-of-kind-4 : tie.Need-cast-of-kind-4
+cast-of-kind-4 c = search needs
+
+of-kind-requires-7 : tie.Need-of-kind-requires-7
+of-kind-requires-7 c κs = search needs
 
 enum-known-f-6 : tie.Need-enum-known-f-6
 enum-known-f-6 c = search needs
 
 returns : tie.Need-returns
 returns c =
-    let n = c .before .before .before .args .refusal in
-    ap (λ (z : ℤ). record { refusal = n; value = z; kind = 0; tag = 0; wait = 0; reserved = 0 }) (back16 (c .before .f .given .0 .0) (in16 c))
-    ∙ sym (ap (functionOf n) (c .before .f .given .1))
+    let n = c .before .before .before .before .args .refusal in
+    c .of-kind .ensures
+    ∙ ap (λ (z : ℤ). ofKind n 0 z 0 0) (back16 (c .before .before .f .given .0 .0) (in16 (c .before)))
+    ∙ sym (ap (functionOf n) (c .before .before .f .given .1))
 
 returns-2 : tie.Need-returns-2
 returns-2 c =
-    let n = c .before .before .before .args .refusal in
-    ap (λ (z : ℤ). record { refusal = n; value = z; kind = 1; tag = 1; wait = 0; reserved = 0 }) (toZ-ofZ w32 (c .before .f2 .given .0 .0) (search needs))
-    ∙ sym (ap (functionOf n) (c .before .f2 .given .1))
+    let n = c .before .before .before .before .args .refusal in
+    c .of-kind2 .ensures
+    ∙ ap (λ (z : ℤ). ofKind n 1 z 0 0) (toZ-ofZ w32 (c .before .before .f2 .given .0 .0) (search needs))
+    ∙ sym (ap (functionOf n) (c .before .before .f2 .given .1))
 
 returns-3 : tie.Need-returns-3
 returns-3 c =
-    let n = c .before .before .before .args .refusal in
-    ap (λ (z : ℤ). record { refusal = n; value = z; kind = 2; tag = 2; wait = 0; reserved = 0 }) (small (c .before .f3 .given .0 .0) (search needs))
-    ∙ sym (ap (functionOf n) (c .before .f3 .given .1))
+    let n = c .before .before .before .before .args .refusal in
+    c .of-kind3 .ensures
+    ∙ ap (λ (z : ℤ). ofKind n 2 z 0 0) (small (c .before .before .f3 .given .0 .0) (search needs))
+    ∙ sym (ap (functionOf n) (c .before .before .f3 .given .1))
 
 returns-4 : tie.Need-returns-4
-returns-4 c = sym (ap (functionOf (c .before .before .args .refusal)) (c .enum-told .given .1))
+returns-4 c =
+    c .of-kind4 .ensures ∙ sym (ap (functionOf (c .before .before .before .args .refusal)) (c .before .enum-told .given .1))
 
 returns-5 : tie.Need-returns-5
 returns-5 c =
-    let n = c .before .before .before .before .args .refusal in
-    let f = c .before .before .f4 .given in
-    (λ i. record { refusal = n; value = small (f .0 .0) (search needs) i; kind = 4; tag = 4; wait = c .bit .ensures i; reserved = f .0 .1 .1 .0 })
+    let n = c .before .before .before .before .before .args .refusal in
+    let f = c .before .before .before .f4 .given in
+    c .of-kind5 .ensures
+    ∙ (λ i. ofKind n 4 (small (f .0 .0) (search needs) i) (c .before .bit .ensures i) (f .0 .1 .1 .0))
     ∙ sym (ap (functionOf n) (f .1))
 
 returns-6 : tie.Need-returns-6
-returns-6 c = sym (ap (functionOf (c .before .before .args .refusal)) (c .enum-told2 .given .1))
+returns-6 c =
+    c .of-kind6 .ensures ∙ sym (ap (functionOf (c .before .before .before .args .refusal)) (c .before .enum-told2 .given .1))
 
 returns-7 : tie.Need-returns-7
 returns-7 c =
-    let n = c .before .before .before .before .args .refusal in
-    let f = c .before .before .f5 .given in
-    (λ i. record { refusal = n; value = small (f .0 .0) (search needs) i; kind = 6; tag = 6; wait = c .bit2 .ensures i; reserved = 0 })
+    let n = c .before .before .before .before .before .args .refusal in
+    let f = c .before .before .before .f5 .given in
+    c .of-kind7 .ensures
+    ∙ (λ i. ofKind n 6 (small (f .0 .0) (search needs) i) (c .before .bit2 .ensures i) 0)
     ∙ sym (ap (functionOf n) (f .1))
 
 returns-8 : tie.Need-returns-8
@@ -115,18 +143,25 @@ flat-spec =
     tie.close
     (tie.spec
     enum-known-f
-    cast-t15
+    cast-of-kind
+    of-kind-requires
     enum-known-f-2
+    of-kind-requires-2
     enum-known-f-3
-    cast-t16
+    cast-of-kind-2
+    of-kind-requires-3
     enum-told
+    of-kind-requires-4
     enum-known-f-4
     bit-requires
-    cast-t17
+    cast-of-kind-3
+    of-kind-requires-5
     enum-told-2
+    of-kind-requires-6
     enum-known-f-5
     bit-requires-2
-    cast-t18
+    cast-of-kind-4
+    of-kind-requires-7
     enum-known-f-6
     returns
     returns-2
