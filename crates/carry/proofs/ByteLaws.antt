@@ -13,14 +13,14 @@ use borrow.Author.Tests.{le-leb, lt-leb, lt-ltb, le-ltb, leb-true, leb-false, lt
 use Rattle.fields.proofs.Cases.{cases, true≢false}
 use Rattle.packet.specs.Layout.{sizeOf}
 use Rattle.packet.specs.Cut.{Whole, joined}
-use Rattle.packet.proofs.CutLaws.{AllWhole}
+use Rattle.packet.proofs.CutLaws.{AllWhole, joined-append}
 use Rattle.packet.proofs.LayoutLaws.{size-least, size-append}
 use Rattle.transport.specs.Load.{Load, plain, start}
 use Rattle.transport.proofs.LoadLaws.{Sound, sound-plain, sound-start}
 use Rattle.carry.specs.Loads.{Gone, goneOf, follows, loadsBy, loadsOf}
 use Rattle.carry.specs.OnBytes.{leftBy, leftOf, planOf, loadFor, bytesBy, loadsFrom}
 use Rattle.carry.specs.declared.Plan.{Plan}
-use Rattle.carry.proofs.LoadLaws.{Goes, evenly, cut, goes, whole-long, joined-more, joined-append, loads-start, loads-none, loads-plain}
+use Rattle.carry.proofs.LoadLaws.{Goes, evenly, cut, goes, whole-long, joined-more, loads-start, loads-none, loads-plain}
 
 -- ---- what is left of the packet that some bytes end in
 

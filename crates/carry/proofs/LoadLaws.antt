@@ -13,7 +13,7 @@ use borrow.Author.Tests.{le-leb, lt-leb, leb-true, leb-false, eq-eqb, ne-eqb, eq
 use Rattle.fields.proofs.Cases.{cases, and-left}
 use Rattle.packet.specs.Layout.{sizeOf}
 use Rattle.packet.specs.Cut.{Whole, joined}
-use Rattle.packet.proofs.CutLaws.{AllWhole}
+use Rattle.packet.proofs.CutLaws.{AllWhole, joined-append}
 use Rattle.packet.proofs.LayoutLaws.{size-least}
 use Rattle.transport.specs.Load.{Load, plain, start}
 use Rattle.carry.specs.Loads.{Gone, goneOf, follows, loadsBy, loadsOf}
@@ -27,11 +27,6 @@ whole-long p w = omega (arith, size-least p, w .size)
 pub joined-more : (p : List ℕ) (ps : List (List ℕ)) → length (joined (p ∷ ps)) ≡ length p + length (joined ps)
 unfolding joined
 joined-more p ps = length-append p (joined ps)
-
-pub joined-append : (a b : List (List ℕ)) → joined (a ++ b) ≡ joined a ++ joined b
-unfolding joined
-joined-append [] b = refl
-joined-append (p ∷ a) b = rw (joined-append a b) (sym (append-assoc p (joined a) (joined b)))
 
 -- ---- how a load unfolds
 

@@ -12,7 +12,7 @@ use lib.ListN.{length, length-append}
 use borrow.Author.Tests.{ltb-false, not-false, eqb-true}
 use Rattle.fields.proofs.Cases.{cases, true≢false}
 use Rattle.packet.specs.Cut.{Whole, Cut, joined}
-use Rattle.packet.proofs.CutLaws.{AllWhole, cut-nil}
+use Rattle.packet.proofs.CutLaws.{AllWhole, cut-nil, joined-append}
 use Rattle.transport.specs.Header.{syncOf, pidOf, countOf, carriedBy}
 use Rattle.transport.specs.Tests.{pidOutside}
 use Rattle.transport.specs.Load.{Load, plain, start, loadBytes, transportOf}
@@ -21,7 +21,7 @@ use Rattle.carry.specs.Loads.{loadsBy, loadsOf}
 use Rattle.carry.specs.Carry.{packetsOf, numbered, loads}
 use Rattle.carry.specs.Theorems.{Packet, Packets, streamOf, beginnings, Among, Right, AllRight}
 use Rattle.carry.proofs.Flow.{Way, none, under, Flow, done, on, end, even, split}
-use Rattle.carry.proofs.LoadLaws.{flows-of, joined-append, joined-more, whole-long}
+use Rattle.carry.proofs.LoadLaws.{flows-of, joined-more, whole-long}
 use Rattle.carry.proofs.BatchLaws.{Carriable, sound}
 
 -- ---- every load is sound
@@ -41,7 +41,7 @@ flow-sound (split u r qs v s ps ls w a b l fs f x) =
 
 -- ---- the transport packets
 
-pid-small : (pid : ℕ) → pidOutside pid ≡ false → pid < 8192
+pub pid-small : (pid : ℕ) → pidOutside pid ≡ false → pid < 8192
 unfolding pidOutside
 pid-small pid h =
     cases (ltb pid 0x0020)
@@ -85,6 +85,11 @@ flow-bytes (even u r qs ps ls w a l fs x) =
 flow-bytes (split u r qs v s ps ls w a b l fs f x) =
     let e : (r ++ (joined qs ++ v)) ++ (s ++ joined ps) ≡ r ++ (joined qs ++ ((v ++ s) ++ joined ps)) = simp append-assoc in
     ap (λ (y : List ℕ). (r ++ (joined qs ++ v)) ++ y) (flow-bytes x) ∙ e ∙ ap (λ (y : List ℕ). r ++ y) (sym (joined-append qs ((v ++ s) ∷ ps)))
+
+-- all that is left of the packet under way, and the packets that follow
+pub flow-stream : {u r : List ℕ} {ps : List (List ℕ)} {ls : List Load} (pid c : ℕ) → pid < 8192 → c < 16 → Flow u r ps ls
+    → joined (streamOf (numbered pid c ls)) ≡ r ++ joined ps
+flow-stream {ls = ls} pid c hp hc w = ap joined (stream pid c ls hp hc (flow-sound w)) ∙ flow-bytes w
 
 -- ---- where packets begin
 
@@ -204,9 +209,7 @@ module _ (pid firstCount : ℕ) (batch : List ℕ) (room : ℕ) (c : Carriable p
   -- what they carry, one after another, is the batch
   pub carried-bytes : joined (streamOf transports) ≡ batch
   carried-bytes =
-      ap joined (stream pid firstCount (loads batch) (pid-small pid (c .pid-good)) (c .count-good) (flow-sound flow))
-      ∙ flow-bytes flow
-      ∙ sound batch (c .good) .bytes
+      flow-stream pid firstCount (pid-small pid (c .pid-good)) (c .count-good) flow ∙ sound batch (c .good) .bytes
 
   -- a start stands exactly where a T2-MI packet begins, and its pointer aims at the first that does
   pub starts-right : AllRight 0 (beginnings 0 (packetsOf batch)) (loads batch)
@@ -220,6 +223,11 @@ counts-run-on pid c (l ∷ ls) ms h =
     let e : ((c + 1) % 16 + length ls) % 16 ≡ (c + suc (length ls)) % 16 = omega arith in
     ap (λ (ts : List (List ℕ)). transportOf pid c l ∷ ts)
     (counts-run-on pid ((c + 1) % 16) ls ms (omega arith) ∙ ap (λ (k : ℕ). numbered pid ((c + 1) % 16) ls ++ numbered pid k ms) e)
+
+pub length-numbered : (pid c : ℕ) (ls : List Load) → length (numbered pid c ls) ≡ length ls
+unfolding numbered
+length-numbered pid c [] = refl
+length-numbered pid c (l ∷ ls) = ap suc (length-numbered pid ((c + 1) % 16) ls)
 
 -- an empty batch gives no packets
 pub none-carried : loads [] ≡ []

@@ -194,6 +194,14 @@ getD-behind at p l i h =
     ∙ ap (λ (m : List ℕ). getD m i 0) (rw (add-zero) at (drop-overlay at p l 0 h))
     ∙ getD-drop (at + length p) l i 0
 
+-- a list laid where it stands already
+pub overlay-same : (p l : List ℕ) → take (length p) l ≡ p → overlay 0 p l ≡ l
+overlay-same p l e =
+    overlay-is 0 p l
+    ∙ ap (λ (k : ℕ). p ++ drop k l) (zero-add (length p))
+    ∙ ap (λ (q : List ℕ). q ++ drop (length p) l) (sym e)
+    ∙ take-append-drop (length p) l
+
 -- ---- what the functions do where all is in range, and where not
 
 pub number-at : (at n : ℕ) (l : List ℕ) → at + n ≤ length l → n ≤ 8 → numberAt at n l ≡ number (part at n l)

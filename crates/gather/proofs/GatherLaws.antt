@@ -10,7 +10,7 @@ use lib.ListN.{length, take, drop, length-append, length-drop, take-append-drop}
 use lib.Seq.{take-all, drop-drop}
 use Rattle.fields.specs.Parts.{part, overlay}
 use Rattle.fields.proofs.Cases.{cases}
-use Rattle.fields.proofs.PartLaws.{overlay-is, overlay-none, take-overlay}
+use Rattle.fields.proofs.PartLaws.{overlay-none, overlay-same, take-overlay}
 use Rattle.refusals.specs.Checks.{first}
 use Rattle.refusals.proofs.AnswerLaws.{answer-accepted, answer-number}
 use Rattle.packet.specs.Layout.{sizeOf}
@@ -50,14 +50,6 @@ brings-plain t b w =
     rw (b, take-all (188 - payloadAt t) (drop (payloadAt t) t) (simp length-drop (omega arith)))
 
 -- ---- where the waiting bytes lie
-
--- a list laid where it stands already
-pub overlay-same : (p l : List ℕ) → take (length p) l ≡ p → overlay 0 p l ≡ l
-overlay-same p l e =
-    overlay-is 0 p l
-    ∙ ap (λ (k : ℕ). p ++ drop k l) (zero-add (length p))
-    ∙ ap (λ (q : List ℕ). q ++ drop (length p) l) (sym e)
-    ∙ take-append-drop (length p) l
 
 module _ (d g : List ℕ) (h : Hand) (in-g : length (h .waiting) ≤ length g) (there : take (length (h .waiting)) g ≡ h .waiting) where
   abbrev after : List ℕ

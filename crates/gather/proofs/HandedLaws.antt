@@ -10,7 +10,7 @@ use Rattle.fields.proofs.Cases.{cases}
 use Rattle.fields.proofs.PartLaws.{take-front}
 use Rattle.packet.specs.Layout.{sizeOf}
 use Rattle.packet.specs.Cut.{Cut, cut, joined}
-use Rattle.packet.proofs.CutLaws.{AllWhole, cut-cuts, first-whole, after, cut-joined, cut-nil}
+use Rattle.packet.proofs.CutLaws.{AllWhole, cut-cuts, first-whole, cut-all}
 use Rattle.gather.specs.State.{unfit}
 use Rattle.gather.specs.Rules.{Brought, broughtBy, Hand, upToStart, unfinished, follows, rulesOn}
 use Rattle.gather.specs.Gather.{inHand, enteredOf, resultOf, takenOf}
@@ -84,14 +84,6 @@ result-whole s t g = handed-whole (broughtBy t) (enteredOf s t g) (entered-none 
 
 -- ---- where they lie
 
-after-none : (ps : List (List ℕ)) → after ps (cut []) .packets ≡ ps
-after-none [] = rw cut-nil
-after-none (p ∷ ps) = ap (λ (x : List (List ℕ)). p ∷ x) (after-none ps)
-
-pub cut-whole-all : (ps : List (List ℕ)) → AllWhole ps → cut (joined ps) .packets ≡ ps
-cut-whole-all ps w =
-    ap (λ (l : List ℕ). cut l .packets) (sym (append-nil (joined ps))) ∙ ap (λ (x : Cut). x .packets) (cut-joined ps [] w) ∙ after-none ps
-
 module _ (s : Reader) (t g o : List ℕ) where
   -- the written bytes are the packets back to back, and are cut into them again
   pub taken-bytes : take (takenOf s t g o .answer .bytes) (takenOf s t g o .output) ≡ joined (resultOf s t g .packets)
@@ -99,7 +91,7 @@ module _ (s : Reader) (t g o : List ℕ) where
   taken-bytes = take-front (joined (resultOf s t g .packets)) o
 
   pub taken-cut : cut (take (takenOf s t g o .answer .bytes) (takenOf s t g o .output)) .packets ≡ resultOf s t g .packets
-  taken-cut = ap (λ (l : List ℕ). cut l .packets) taken-bytes ∙ cut-whole-all (resultOf s t g .packets) (result-whole s t g)
+  taken-cut = ap (λ (l : List ℕ). cut l .packets) taken-bytes ∙ ap (λ (c : Cut). c .packets) (cut-all (resultOf s t g .packets) (result-whole s t g))
 
   -- what waits lies at the front of the gathering buffer, is not finished, and is what the next call finds
   pub taken-holds : take (takenOf s t g o .answer .reader .waiting) (takenOf s t g o .gathering) ≡ resultOf s t g .waiting

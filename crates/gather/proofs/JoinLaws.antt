@@ -18,13 +18,12 @@ use Rattle.fields.proofs.PartLaws.{length-part, take-part, overlay-none, take-o
 use Rattle.packet.specs.Layout.{sizeOf}
 use Rattle.packet.specs.Cut.{joined}
 use Rattle.packet.proofs.LayoutLaws.{size-least, size-most, size-append}
-use Rattle.packet.proofs.CutLaws.{judged-short, judged-bad, judged-good}
+use Rattle.packet.proofs.CutLaws.{judged-short, judged-bad, judged-good, joined-one}
 use Rattle.gather.specs.Rules.{none, Hand, crcFails, waits, handsOut, strays, joining, upToStart}
 use Rattle.gather.specs.Gather.{joiners}
 use Rattle.gather.specs.Phases.{heldMisfits, heldCrcFails, heldWaits, heldHandsOut, numbers, handOf, Entered, Laid, ledOf}
 use Rattle.gather.specs.Theorems.{Front, nothing, finished-one}
 use Rattle.gather.specs.declared.Held.{Held}
-use Rattle.gather.proofs.JudgeLaws.{joined-one}
 
 -- ---- waiting bytes with new ones behind them
 

@@ -1,8 +1,8 @@
--- What a judgement says of the bytes that it was made of, and packets behind packets.
+-- What a judgement says of the bytes that it was made of.
 -- Assumes nothing.
-use mathlib.Core.Path.{_≡_, refl, sym, ap, _∙_}
+use mathlib.Core.Path.{_≡_, refl, sym, _∙_}
 use mathlib.Core.Bool.{true, false}
-use mathlib.Core.List.{List, [], _∷_, _++_, append-assoc, append-nil}
+use mathlib.Core.List.{List}
 use Prim.Native.Nat.{ℕ, _≤_, _<_}
 use lib.Dec.{leb}
 use lib.ListN.{length, take}
@@ -10,7 +10,7 @@ use borrow.Author.Tests.{leb-true, leb-false}
 use Rattle.fields.proofs.Cases.{cases}
 use Rattle.crc.specs.Crc.{crcHolds}
 use Rattle.packet.specs.Layout.{sizeOf}
-use Rattle.packet.specs.Cut.{judgeOf, joined}
+use Rattle.packet.specs.Cut.{judgeOf}
 use Rattle.packet.specs.declared.Judged.{Judged}
 use Rattle.packet.specs.declared.Judged.the-variants.{Short, Bad, Good}
 use Rattle.packet.proofs.CutLaws.{judged-short, judged-bad, judged-good}
@@ -34,14 +34,3 @@ judged-says l =
 
 pub says : (l : List ℕ) (j k : Judged) → j ≡ judgeOf l → j ≡ k → Says k l
 says l j k e f = rw (sym e ∙ f) at (judged-says l)
-
--- ---- packets behind packets
-
-pub joined-one : (p : List ℕ) → joined (p ∷ []) ≡ p
-unfolding joined
-joined-one p = append-nil p
-
-pub joined-append : (ps qs : List (List ℕ)) → joined (ps ++ qs) ≡ joined ps ++ joined qs
-unfolding joined
-joined-append [] qs = refl
-joined-append (p ∷ ps) qs = ap (λ (l : List ℕ). p ++ l) (joined-append ps qs) ∙ sym (append-assoc p (joined ps) (joined qs))

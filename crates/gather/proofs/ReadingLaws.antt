@@ -16,9 +16,9 @@ use Rattle.fields.proofs.PartLaws.{length-part, overlay-is}
 use Rattle.refusals.specs.Checks.{first}
 use Rattle.refusals.proofs.CheckLaws.{first-zero}
 use Rattle.packet.specs.Layout.{sizeOf}
-use Rattle.packet.specs.Cut.{Whole, stop, joined}
+use Rattle.packet.specs.Cut.{Whole, joined}
 use Rattle.packet.proofs.LayoutLaws.{size-least, size-append}
-use Rattle.packet.proofs.CutLaws.{AllWhole, after, cut-short, cut-joined}
+use Rattle.packet.proofs.CutLaws.{AllWhole, cut-behind}
 use Rattle.transport.specs.Header.{countOf, starts, payloadAt, pointerOf}
 use Rattle.transport.specs.Tests.{fieldLong, transportChecks}
 use Rattle.transport.specs.Load.{Load, plain, start, headBytes, transportOf}
@@ -63,7 +63,7 @@ brought-plain pid count d hp hc sound =
     let f : Found pid count (plain d) = found pid count (plain d) hp hc sound in
     rw (f .begun, f .counted, f .carries)
 
-pointer-is : (pid count n : ℕ) (d : List ℕ) → pid < 8192 → count < 16 → pointerOf (transportOf pid count (start n d)) ≡ n
+pub pointer-is : (pid count n : ℕ) (d : List ℕ) → pid < 8192 → count < 16 → pointerOf (transportOf pid count (start n d)) ≡ n
 unfolding transportOf
 pointer-is pid count n d hp hc =
     let e : length (headBytes pid 1 count (183 - length d)) ≡ 4 + (183 - length d) = omega (arith, simp length-append at (length-head pid 1 count (183 - length d) [])) in
@@ -99,13 +99,9 @@ whole-short a r w h =
     (λ t. omega (arith, size-append a r (leb-true 6 (length a) t), w .size, length-append a r))
     (λ t. omega (arith, size-least a, leb-false 6 (length a) t))
 
-after-stop : (qs : List (List ℕ)) (v : List ℕ) → after qs (stop v false) ≡ record { packets = qs; rest = v; bad = false }
-after-stop [] v = refl
-after-stop (q ∷ qs) v = rw (after-stop qs v)
-
 pub follows-joined : (qs : List (List ℕ)) (v : List ℕ) (h : Hand) → AllWhole qs → length v < sizeOf v → follows (joined qs ++ v) h ≡ waits v (handsOut qs h)
 unfolding follows
-follows-joined qs v h w s = rw (cut-joined qs v w, cut-short v s, after-stop qs v)
+follows-joined qs v h w s = rw (cut-behind qs v w s)
 
 -- ---- the rules, with no start
 

@@ -10,22 +10,11 @@ use lib.ListN.{length, getD}
 use borrow.Author.Tests.{eq-eqb, eqb-true, le-ltb, ltb-false, leb-false, not-false}
 use Rattle.fields.proofs.Cases.{cases}
 use Rattle.refusals.specs.Checks.{Check, _when_, first}
-use Rattle.refusals.proofs.CheckLaws.{NoneHolds, none-holds}
+use Rattle.refusals.proofs.CheckLaws.{none-holds, first-front, first-behind}
 use Rattle.transport.specs.Header.{controlOf, countOf, starts, payloadAt, pointerOf}
 use Rattle.transport.specs.Tests.{pidOutside, fieldLong, pointerBeyond, transportChecks}
 use Rattle.gather.specs.State.{countOver, waitsOutOfStep, unfit, repeats, gatherChecks}
 use Rattle.gather.specs.declared.Reader.{Reader}
-
--- ---- one list of checks behind another
-
-pub first-front : (l m : List Check) → (first l ≡ 0 → ⊥) → first (l ++ m) ≡ first l
-first-front [] m h = absurd (h refl)
-first-front ((n when true) ∷ l) m h = refl
-first-front ((n when false) ∷ l) m h = first-front l m h
-
-pub first-behind : (l m : List Check) → NoneHolds l → first (l ++ m) ≡ first m
-first-behind [] m h = refl
-first-behind ((n when b) ∷ l) m h = rw (h .0) (first-behind l m (h .1))
 
 -- ---- past 38, 1, 2 and 3
 

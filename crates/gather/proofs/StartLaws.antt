@@ -15,12 +15,11 @@ use Rattle.fields.proofs.Cases.{cases}
 use Rattle.fields.proofs.NumberLaws.{bytes-take, bytes-append}
 use Rattle.fields.proofs.PartLaws.{part-none, part-bytes, overlay-next, copied-to}
 use Rattle.packet.specs.Cut.{Cut, cut, joined}
-use Rattle.packet.proofs.CutLaws.{cut-cuts}
+use Rattle.packet.proofs.CutLaws.{cut-cuts, joined-append}
 use Rattle.gather.specs.Rules.{none, Hand, misfits, upToStart, unfinished, follows}
 use Rattle.gather.specs.Gather.{joiners}
 use Rattle.gather.specs.Phases.{heldMisfits, numbers, handOf, Laid, ledOf, withStartOf, Ahead, followedOf}
 use Rattle.gather.specs.declared.Held.{Held}
-use Rattle.gather.proofs.JudgeLaws.{joined-append}
 use Rattle.gather.proofs.JoinLaws.{Small, front, front-small}
 
 -- ---- the stages from the start on, on numbers

@@ -128,7 +128,7 @@ result-order s t g u =
 abbrev WaitsBytes : Hand → Type 0
 WaitsBytes h = Bytes (h .waiting)
 
-no-bytes : Bytes []
+pub no-bytes : Bytes []
 no-bytes i = lit< tt
 
 pub stage-bytes : (d : List ℕ) (h : Hand) → Bytes d → Bytes (h .waiting) → Bytes (upToStart d h .waiting)
@@ -148,15 +148,27 @@ pub follows-bytes : (l : List ℕ) (h : Hand) → Bytes l → Bytes (follows l h
 follows-bytes l h b =
     follows-cases WaitsBytes l h (λ e. no-bytes) (λ e. rw (rest-is l) (bytes-drop (length (joined (cut l .packets))) l b))
 
+module _ (t : List ℕ) (bt : Bytes t) where
+  carried-are : Bytes (carriedBy t)
+  unfolding carriedBy
+  carried-are = bytes-drop (carriedAt t) t bt
+
+  pub before-bytes : Bytes (broughtBy t .before)
+  unfolding broughtBy
+  before-bytes = cases (starts t) (λ e. rw e (bytes-take (pointerOf t) (carriedBy t) carried-are)) (λ e. rw e carried-are)
+
+  pub onward-bytes : Bytes (broughtBy t .onward)
+  unfolding broughtBy
+  onward-bytes = cases (starts t) (λ e. rw e (bytes-drop (pointerOf t) (carriedBy t) carried-are)) (λ e. rw e no-bytes)
+
+pub entered-bytes : (s : Reader) (t g : List ℕ) → Bytes g → Bytes (enteredOf s t g .waiting)
+entered-bytes s t g bg = rule-cases WaitsBytes (s .last) (broughtBy t .count) (inHand s g) no-bytes no-bytes (λ r. bytes-take (s .waiting) g bg)
+
 pub result-bytes : (s : Reader) (t g : List ℕ) → Bytes t → Bytes g → Bytes (resultOf s t g .waiting)
-unfolding broughtBy carriedBy
 result-bytes s t g bt bg =
-    let carried : Bytes (carriedBy t) = bytes-drop (carriedAt t) t bt in
-    let before : Bytes (broughtBy t .before) = cases (starts t) (λ e. rw e (bytes-take (pointerOf t) (carriedBy t) carried)) (λ e. rw e carried) in
-    let onward : Bytes (broughtBy t .onward) = cases (starts t) (λ e. rw e (bytes-drop (pointerOf t) (carriedBy t) carried)) (λ e. rw e no-bytes) in
     rules-cases WaitsBytes (broughtBy t) (enteredOf s t g)
-    (stage-bytes (broughtBy t .before) (enteredOf s t g) before (rule-cases WaitsBytes (s .last) (broughtBy t .count) (inHand s g) no-bytes no-bytes (λ r. bytes-take (s .waiting) g bg)))
-    (follows-bytes (broughtBy t .onward) (unfinished (upToStart (broughtBy t .before) (enteredOf s t g))) onward)
+    (stage-bytes (broughtBy t .before) (enteredOf s t g) (before-bytes t bt) (entered-bytes s t g bg))
+    (follows-bytes (broughtBy t .onward) (unfinished (upToStart (broughtBy t .before) (enteredOf s t g))) (onward-bytes t bt))
 
 -- ---- a refusal changes nothing
 

@@ -10,7 +10,7 @@ use lib.IntN.{ℤ, pos, negℤ, _+ℤ_, _-ℤ_}
 use borrow.Author.Tests.{eqb-true, eqb-false}
 use Rattle.fields.proofs.Cases.{cases}
 use Rattle.refusals.specs.Checks.{Check, _when_, first}
-use Rattle.refusals.proofs.CheckLaws.{NoneHolds, none-holds}
+use Rattle.refusals.proofs.CheckLaws.{none-holds, first-front, first-behind}
 use Rattle.refusals.proofs.AnswerLaws.{answer-accepted, answer-refused, answer-shows}
 use Rattle.mip.proofs.ModuloLaws.{modulo-lt, modulo-modulo}
 use Rattle.mip.specs.Layout.{second}
@@ -34,17 +34,6 @@ module _ (checks : List Check) (steps : ℕ) where
       cases (eqb (first checks) 0)
       (λ t. rw (timed-accepted (eqb-true _ _ t)) h)
       (λ t. rw (timed-refused (eqb-false _ _ t)) (lit< tt))
-
--- ---- checks behind checks
-
-first-early : (l m : List Check) → (first l ≡ 0 → ⊥) → first (l ++ m) ≡ first l
-first-early [] m h = absurd (h refl)
-first-early ((n when true) ∷ l) m h = refl
-first-early ((n when false) ∷ l) m h = first-early l m h
-
-first-late : (l m : List Check) → NoneHolds l → first (l ++ m) ≡ first m
-first-late [] m h = refl
-first-late ((n when b) ∷ l) m h = rw (h .0) (first-late l m (h .1))
 
 -- ---- emission
 
@@ -88,11 +77,11 @@ module _ (stamp delay : ℕ) (offset : ℤ) (reception : ℕ) where
   -- the reception time is judged last
   early : (first (emissionChecks stamp delay offset) ≡ 0 → ⊥) → first (extraChecks stamp delay offset reception) ≡ first (emissionChecks stamp delay offset)
   unfolding emissionChecks extraChecks
-  early z = first-early (emissionChecks stamp delay offset) (37 when over reception ∷ []) z
+  early z = first-front (emissionChecks stamp delay offset) (37 when over reception ∷ []) z
 
   late : first (emissionChecks stamp delay offset) ≡ 0 → first (extraChecks stamp delay offset reception) ≡ cond (over reception) 37 0
   unfolding emissionChecks extraChecks
-  late z = first-late (emissionChecks stamp delay offset) (37 when over reception ∷ []) (none-holds (emissionChecks stamp delay offset) tt z)
+  late z = first-behind (emissionChecks stamp delay offset) (37 when over reception ∷ []) (none-holds (emissionChecks stamp delay offset) tt z)
 
   pub extra-early : (first (emissionChecks stamp delay offset) ≡ 0 → ⊥) → extraOf stamp delay offset reception ≡ emissionOf stamp delay offset
   extra-early z =

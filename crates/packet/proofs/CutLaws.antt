@@ -2,7 +2,7 @@
 -- Assumes nothing.
 use mathlib.Core.Path.{_≡_, refl, sym, ap, _∙_}
 use mathlib.Core.Bool.{Bool, true, false, cond}
-use mathlib.Core.List.{List, [], _∷_, _++_, append-assoc}
+use mathlib.Core.List.{List, [], _∷_, _++_, append-assoc, append-nil}
 use Prim.Native.Nat.{ℕ, zero, suc, _+_, _-_, _≤_, _<_}
 use native.Mathlib.Omega.{arith}
 use lib.Dec.{leb}
@@ -145,3 +145,25 @@ unfolding joined
 cut-joined [] l w = refl
 cut-joined (p ∷ ps) l w =
     ap cut (append-assoc p (joined ps) l) ∙ cut-whole p (joined ps ++ l) (w .0) ∙ ap (more p) (cut-joined ps l (w .1))
+
+-- and bytes behind them that are no whole packet are the rest
+pub cut-behind : (ps : List (List ℕ)) (l : List ℕ) → AllWhole ps → length l < sizeOf l → cut (joined ps ++ l) ≡ record { packets = ps; rest = l; bad = false }
+unfolding joined
+cut-behind [] l w h = cut-short l h
+cut-behind (p ∷ ps) l w h =
+    ap cut (append-assoc p (joined ps) l) ∙ cut-whole p (joined ps ++ l) (w .0) ∙ ap (more p) (cut-behind ps l (w .1) h)
+
+-- whole packets one after another are cut into just these
+pub cut-all : (ps : List (List ℕ)) → AllWhole ps → cut (joined ps) ≡ record { packets = ps; rest = []; bad = false }
+cut-all ps w = ap cut (sym (append-nil (joined ps))) ∙ cut-behind ps [] w (omega (arith, size-least []))
+
+-- ---- packets one after another
+
+pub joined-one : (p : List ℕ) → joined (p ∷ []) ≡ p
+unfolding joined
+joined-one p = append-nil p
+
+pub joined-append : (ps qs : List (List ℕ)) → joined (ps ++ qs) ≡ joined ps ++ joined qs
+unfolding joined
+joined-append [] qs = refl
+joined-append (p ∷ ps) qs = rw (joined-append ps qs) (sym (append-assoc p (joined ps) (joined qs)))

@@ -2,7 +2,7 @@
 -- Assumes nothing.
 use mathlib.Core.Path.{_≡_, refl, sym, ap, _∙_}
 use mathlib.Core.Bool.{Bool, true, false, cond}
-use mathlib.Core.List.{List, [], _∷_}
+use mathlib.Core.List.{List, [], _∷_, _++_}
 use Prim.Native.Nat.{ℕ, zero, suc, _<_}
 use native.Mathlib.Nat.{suc-ne-zero}
 use native.Mathlib.Omega.{arith}
@@ -71,6 +71,17 @@ none-holds ((suc n when false) ∷ l) p h = (refl, none-holds l p h)
 pub first-zero : (l : List Check) → NoneHolds l → first l ≡ 0
 first-zero [] h = refl
 first-zero ((n when b) ∷ l) h = rw (h .0) (first-zero l (h .1))
+
+-- ---- one list of checks behind another
+
+pub first-front : (l m : List Check) → (first l ≡ 0 → ⊥) → first (l ++ m) ≡ first l
+first-front [] m h = absurd (h refl)
+first-front ((n when true) ∷ l) m h = refl
+first-front ((n when false) ∷ l) m h = first-front l m h
+
+pub first-behind : (l m : List Check) → NoneHolds l → first (l ++ m) ≡ first m
+first-behind [] m h = refl
+first-behind ((n when b) ∷ l) m h = rw (h .0) (first-behind l m (h .1))
 
 -- ---- for the reader of a statement (01: "given exactly when its line holds and no earlier check of that operation's
 -- list did")

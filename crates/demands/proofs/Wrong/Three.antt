@@ -1,0 +1,216 @@
+-- Wrong libraries that demand 3 refuses: each is ours but for one operation, and is refuted by one short journey.
+-- Assumes nothing.
+use mathlib.Core.Path.{_≡_, refl, sym, ap, _∙_}
+use Prim.Native.Nat.{ℕ, zero, suc, _+_, _%_, _≤_, _<_}
+use mathlib.Core.Bool.{Bool, true, false, cond, _&&_}
+use mathlib.Core.List.{List, [], _∷_, _++_}
+use native.Mathlib.Omega.{arith}
+use lib.Dec.{ltb, lit<}
+use lib.ListN.{length, getD, take, replicate, length-replicate}
+use borrow.Author.Tests.{ltb-true}
+use Rattle.fields.specs.Formats.{pack, unpack}
+use Rattle.fields.specs.Numbers.{Bytes, number, bytes}
+use Rattle.fields.specs.Parts.{overlay}
+use Rattle.fields.proofs.Cases.{and-left, and-right, true≢false}
+use Rattle.refusals.specs.Answers.{answer}
+use Rattle.crc.specs.Crc as crc
+use Rattle.packet.specs.Layout.{sizeOf}
+use Rattle.packet.specs.Cut.{Whole, judgeOf, cutBy, cut, joined}
+use Rattle.transport.specs.Header as transport
+use Rattle.transport.specs.Tests.{pidOutside, fieldLong, pointerBeyond, transportChecks}
+use Rattle.transport.specs.Load.{plain, headBytes, transportOf}
+use Rattle.carry.specs.Loads.{goneOf, loadsBy, loadsOf}
+use Rattle.carry.specs.Carry.{batchFault, numbered, carryChecks, carryOf, Outcome}
+use Rattle.gather.specs.State.{startOf, unfit, gatherChecks}
+use Rattle.gather.specs.Rules.{broughtBy, ruleOne, joining, upToStart, follows, rulesOn}
+use Rattle.gather.specs.Gather as gathering
+use Rattle.gather.specs.Gather.{joiners, takenOf, gatherOf, refusedOf}
+use Rattle.gather.specs.declared.Last.{Last}
+use Rattle.gather.specs.declared.Last.the-variants.{Nothing, Count}
+use Rattle.gather.specs.declared.Reader.{Reader}
+use Rattle.demands.specs.Library.{Library, ours}
+use Rattle.demands.specs.Demand2.Carry.{transportsIn}
+use Rattle.demands.specs.Route.{Item, writers, again, Route, nothing, due, arrives, lossMarks, inputs}
+use Rattle.demands.specs.Demand3.{Batch, Carriable, AllCarriable, packetsOf, carryAll, run, Exactly, Demand3}
+use Rattle.demands.proofs.Wrong.Changed.{five, buffer, space, carriedBy, gatheredBy}
+
+-- ---- a journey: one small packet in each batch
+
+-- the elements of a list are bytes, by computing
+abbrev below : List ℕ → Bool
+below [] = true
+below (x ∷ l) = ltb x 256 && below l
+
+bytes-by : (l : List ℕ) → below l ≡ true → Bytes l
+bytes-by [] h i = lit< tt
+bytes-by (x ∷ l) h zero = ltb-true x 256 (and-left (ltb x 256) (below l) h)
+bytes-by (x ∷ l) h (suc i) = bytes-by l (and-right (ltb x 256) (below l) h) i
+
+abbrev one : Batch
+one = record { packets = five ∷ []; out = replicate 188 0 }
+
+good : Carriable one
+unfolding joined sizeOf crc.crcHolds crc.crcOf crc.run crc.feed crc.bitAt crc.shift loadsOf loadsBy goneOf
+good = record { whole = (record { size = refl; crc = refl }, tt); bytes = bytes-by five refl; short = omega arith; room = omega arith }
+
+-- PID 256, counts from 0 on, over this route
+abbrev Told : Library → List Batch → List Item → Type 0
+Told lib bs is =
+    Exactly (due (arrives is) (carryAll lib 256 0 bs) 0 (packetsOf bs)) (lossMarks nothing is)
+    (run lib (lib .start 256 .reader) buffer (λ n. space) (inputs (carryAll lib 256 0 bs) is))
+
+journey : (lib : Library) → Demand3 lib → (bs : List Batch) → AllCarriable bs → (is : List Item) → Route 256 (length (carryAll lib 256 0 bs)) nothing is → Told lib bs is
+unfolding pidOutside
+journey lib d bs f is r =
+    d .exactly 256 0 refl (omega arith) bs f is r buffer (omega (arith, length-replicate {A = ℕ} 8202 0)) (λ n. space) (λ n. omega (arith, length-replicate {A = ℕ} 8385 9))
+
+-- ---- one that refuses everything
+
+abbrev pub refusesAll : Reader → List ℕ → List ℕ → List ℕ → gathering.Outcome
+refusesAll s t g o = refusedOf s g o 38
+
+pub refuses-everything : Demand3 (gatheredBy refusesAll) → ⊥
+unfolding gatherOf takenOf gatherChecks transportChecks unfit pidOutside fieldLong pointerBeyond transport.field transport.payloadAt transport.carriedAt transport.carriedBy broughtBy ruleOne joining upToStart follows rulesOn joiners judgeOf cutBy cut joined sizeOf crc.crcHolds crc.crcOf crc.run crc.feed crc.bitAt crc.shift overlay answer pack unpack number bytes batchFault numbered carryChecks carryOf loadsOf loadsBy goneOf headBytes transportOf startOf transportsIn
+refuses-everything d =
+    let m = journey (gatheredBy refusesAll) d (one ∷ []) (good, tt) (writers 0 ∷ []) (omega arith, tt) in
+    let z : _≡_ {A = ℕ} 0 1 = ap length (m .handed) in omega arith
+
+-- ---- one that returns one packet always
+
+abbrev pub onePacket : Reader → List ℕ → List ℕ → List ℕ → gathering.Outcome
+onePacket s t g o =
+    record {
+      answer = record { refusal = 0; reader = s; bytes = 10; packets = 1; loss = false; misfit = false; crc = false };
+      gathering = g;
+      output = overlay 0 five o;
+    }
+
+pub returns-one : Demand3 (gatheredBy onePacket) → ⊥
+unfolding gatherOf takenOf gatherChecks transportChecks unfit pidOutside fieldLong pointerBeyond transport.field transport.payloadAt transport.carriedAt transport.carriedBy broughtBy ruleOne joining upToStart follows rulesOn joiners judgeOf cutBy cut joined sizeOf crc.crcHolds crc.crcOf crc.run crc.feed crc.bitAt crc.shift overlay answer pack unpack number bytes batchFault numbered carryChecks carryOf loadsOf loadsBy goneOf headBytes transportOf startOf transportsIn
+returns-one d =
+    let m = journey (gatheredBy onePacket) d (one ∷ []) (good, tt) (writers 0 ∷ again 0 ∷ []) (omega arith, (refl, tt)) in
+    let z : _≡_ {A = ℕ} 2 1 = ap length (m .handed) in omega arith
+
+-- ---- one that writes nothing: the right answer, and the output as it was
+
+abbrev pub silent : Reader → List ℕ → List ℕ → List ℕ → gathering.Outcome
+silent s t g o = let x = gatherOf s t g o in record { answer = x .answer; gathering = x .gathering; output = o }
+
+pub writes-nothing : Demand3 (gatheredBy silent) → ⊥
+unfolding gatherOf takenOf gatherChecks transportChecks unfit pidOutside fieldLong pointerBeyond transport.field transport.payloadAt transport.carriedAt transport.carriedBy broughtBy ruleOne joining upToStart follows rulesOn joiners judgeOf cutBy cut joined sizeOf crc.crcHolds crc.crcOf crc.run crc.feed crc.bitAt crc.shift overlay answer pack unpack number bytes batchFault numbered carryChecks carryOf loadsOf loadsBy goneOf headBytes transportOf startOf transportsIn
+writes-nothing d =
+    let m = journey (gatheredBy silent) d (one ∷ []) (good, tt) (writers 0 ∷ []) (omega arith, tt) in
+    let z : _≡_ {A = ℕ} 0 1 = ap length (m .handed) in omega arith
+
+-- ---- one that gathers in its first call and then only advances the count
+
+abbrev firstOnly : Last → Reader → List ℕ → List ℕ → List ℕ → gathering.Outcome
+firstOnly Nothing s t g o = gatherOf s t g o
+firstOnly (Count n) s t g o =
+    record {
+      answer = record {
+        refusal = 0;
+        reader = record { pid = s .pid; last = Count (transport.countOf t); «in_step» = s .«in_step»; waiting = s .waiting };
+        bytes = 0;
+        packets = 0;
+        loss = false;
+        misfit = false;
+        crc = false;
+      };
+      gathering = g;
+      output = o;
+    }
+
+abbrev pub gathersOnce : Reader → List ℕ → List ℕ → List ℕ → gathering.Outcome
+gathersOnce s t g o = firstOnly (s .last) s t g o
+
+abbrev two : List Batch
+two = one ∷ one ∷ []
+
+pub gathers-once : Demand3 (gatheredBy gathersOnce) → ⊥
+unfolding gatherOf takenOf gatherChecks transportChecks unfit pidOutside fieldLong pointerBeyond transport.field transport.payloadAt transport.carriedAt transport.carriedBy broughtBy ruleOne joining upToStart follows rulesOn joiners judgeOf cutBy cut joined sizeOf crc.crcHolds crc.crcOf crc.run crc.feed crc.bitAt crc.shift overlay answer pack unpack number bytes batchFault numbered carryChecks carryOf loadsOf loadsBy goneOf headBytes transportOf startOf transportsIn
+gathers-once d =
+    let m = journey (gatheredBy gathersOnce) d two (good, (good, tt)) (writers 0 ∷ writers 1 ∷ []) (omega arith, (omega arith, omega arith, omega arith, tt)) in
+    let z : _≡_ {A = ℕ} 1 2 = ap length (m .handed) in omega arith
+
+-- ---- a writer that invents counts: from 7 on, whatever the first count
+
+abbrev pub fromSeven : ℕ → ℕ → List ℕ → List ℕ → Outcome
+fromSeven pid count batch out = carryOf pid 7 batch out
+
+pub invents-counts : Demand3 (carriedBy fromSeven) → ⊥
+unfolding gatherOf takenOf gatherChecks transportChecks unfit pidOutside fieldLong pointerBeyond transport.field transport.payloadAt transport.carriedAt transport.carriedBy broughtBy ruleOne joining upToStart follows rulesOn joiners judgeOf cutBy cut joined sizeOf crc.crcHolds crc.crcOf crc.run crc.feed crc.bitAt crc.shift overlay answer pack unpack number bytes batchFault numbered carryChecks carryOf loadsOf loadsBy goneOf headBytes transportOf startOf transportsIn
+invents-counts d =
+    let m = journey (carriedBy fromSeven) d two (good, (good, tt)) (writers 0 ∷ writers 1 ∷ []) (omega arith, (omega arith, omega arith, omega arith, tt)) in
+    let z : _≡_ {A = ℕ} 1 2 = ap length (m .handed) in omega arith
+
+-- ---- one that does not look at the count: what comes again is handed out again
+
+abbrev pub deaf : Reader → List ℕ → List ℕ → List ℕ → gathering.Outcome
+deaf s t g o = gatherOf (record { pid = s .pid; last = Nothing; «in_step» = s .«in_step»; waiting = s .waiting }) t g o
+
+pub hands-out-again : Demand3 (gatheredBy deaf) → ⊥
+unfolding gatherOf takenOf gatherChecks transportChecks unfit pidOutside fieldLong pointerBeyond transport.field transport.payloadAt transport.carriedAt transport.carriedBy broughtBy ruleOne joining upToStart follows rulesOn joiners judgeOf cutBy cut joined sizeOf crc.crcHolds crc.crcOf crc.run crc.feed crc.bitAt crc.shift overlay answer pack unpack number bytes batchFault numbered carryChecks carryOf loadsOf loadsBy goneOf headBytes transportOf startOf transportsIn
+hands-out-again d =
+    let m = journey (gatheredBy deaf) d (one ∷ []) (good, tt) (writers 0 ∷ again 0 ∷ []) (omega arith, (refl, tt)) in
+    let z : _≡_ {A = ℕ} 2 1 = ap length (m .handed) in omega arith
+
+-- ---- one that never marks a loss, and one that marks each arrival
+
+abbrev marking : Bool → Reader → List ℕ → List ℕ → List ℕ → gathering.Outcome
+marking loss s t g o =
+    let x = gatherOf s t g o in
+    record {
+      answer = record {
+        refusal = x .answer .refusal;
+        reader = x .answer .reader;
+        bytes = x .answer .bytes;
+        packets = x .answer .packets;
+        loss = loss;
+        misfit = x .answer .misfit;
+        crc = x .answer .crc;
+      };
+      gathering = x .gathering;
+      output = x .output;
+    }
+
+pub marks-none : Demand3 (gatheredBy (marking false)) → ⊥
+unfolding gatherOf takenOf gatherChecks transportChecks unfit pidOutside fieldLong pointerBeyond transport.field transport.payloadAt transport.carriedAt transport.carriedBy broughtBy ruleOne joining upToStart follows rulesOn joiners judgeOf cutBy cut joined sizeOf crc.crcHolds crc.crcOf crc.run crc.feed crc.bitAt crc.shift overlay answer pack unpack number bytes batchFault numbered carryChecks carryOf loadsOf loadsBy goneOf headBytes transportOf startOf transportsIn
+marks-none d =
+    let m = journey (gatheredBy (marking false)) d (one ∷ two) (good, (good, (good, tt))) (writers 0 ∷ writers 2 ∷ []) (omega arith, (omega arith, omega arith, omega arith, tt)) in
+    true≢false (sym (ap (λ (l : List Bool). getD l 1 false) (m .marked)))
+
+pub marks-all : Demand3 (gatheredBy (marking true)) → ⊥
+unfolding gatherOf takenOf gatherChecks transportChecks unfit pidOutside fieldLong pointerBeyond transport.field transport.payloadAt transport.carriedAt transport.carriedBy broughtBy ruleOne joining upToStart follows rulesOn joiners judgeOf cutBy cut joined sizeOf crc.crcHolds crc.crcOf crc.run crc.feed crc.bitAt crc.shift overlay answer pack unpack number bytes batchFault numbered carryChecks carryOf loadsOf loadsBy goneOf headBytes transportOf startOf transportsIn
+marks-all d =
+    let m = journey (gatheredBy (marking true)) d (one ∷ []) (good, tt) (writers 0 ∷ []) (omega arith, tt) in
+    true≢false (ap (λ (l : List Bool). getD l 0 false) (m .marked))
+
+-- ---- Harbour: two halves joined across fifteen lost transport packets, and the CRC not looked at
+
+-- Fifteen lost are no route: the next one is refused as a repeat, and to the one behind it the count says that nothing was lost.
+-- What a reader then joins is of two packets, and only the CRC can tell. One that does not look hands it out
+abbrev pub skipsCrc : Reader → List ℕ → List ℕ → List ℕ → gathering.Outcome
+skipsCrc s t g o =
+    let joint = take (s .waiting) g ++ transport.carriedBy t in
+    let packet = take (sizeOf joint) joint in
+    record {
+      answer = record {
+        refusal = 0;
+        reader = record { pid = s .pid; last = Count (transport.countOf t); «in_step» = true; waiting = 0 };
+        bytes = length packet;
+        packets = 1;
+        loss = false;
+        misfit = false;
+        crc = false;
+      };
+      gathering = g;
+      output = overlay 0 packet o;
+    }
+
+-- six bytes of a packet of ten wait, and the last four of another come
+pub joins-halves : Demand3 (gatheredBy skipsCrc) → ⊥
+unfolding gatherOf takenOf gatherChecks transportChecks unfit pidOutside fieldLong pointerBeyond transport.field transport.payloadAt transport.carriedAt transport.carriedBy broughtBy ruleOne joining upToStart follows rulesOn joiners judgeOf cutBy cut joined sizeOf crc.crcHolds crc.crcOf crc.run crc.feed crc.bitAt crc.shift overlay answer pack unpack number bytes batchFault numbered carryChecks carryOf loadsOf loadsBy goneOf headBytes transportOf startOf transportsIn
+joins-halves d =
+    let m = d .clean (record { pid = 256; last = Count 0; «in_step» = true; waiting = 6 }) (transportOf 256 1 (plain (1 ∷ 2 ∷ 3 ∷ 4 ∷ []))) (take 6 five) [] in
+    let z : _≡_ {A = ℕ} 1 0 = m .number in omega arith

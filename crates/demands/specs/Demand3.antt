@@ -1,0 +1,130 @@
+-- Demand 3: over a lossy link the reader hands out exactly the T2-MI packets whose every carrier arrived, and marks exactly
+-- the losses.
+use mathlib.Core.Path.{_≡_}
+use mathlib.Core.Bool.{Bool, false}
+use mathlib.Core.List.{List, [], _∷_, _++_}
+use Prim.Native.Nat.{ℕ, suc, _*_, _≤_, _<_}
+use lib.ListN.{length, take}
+use Rattle.fields.specs.Numbers.{Bytes}
+use Rattle.packet.specs.Cut.{cut, joined}
+use Rattle.packet.proofs.CutLaws.{AllWhole}
+use Rattle.transport.specs.Tests.{pidOutside}
+use Rattle.carry.specs.Loads.{loadsOf}
+use Rattle.carry.specs.Theorems.{streamOf}
+use Rattle.gather.specs.Gather as gathering
+use Rattle.gather.specs.declared.Reader.{Reader}
+use Rattle.demands.specs.Library.{Library}
+use Rattle.demands.specs.Demand2.Carry.{transports}
+use Rattle.demands.specs.Route.{Item, Latest, nothing, Route, inputs, arrives, due, lossMarks}
+
+-- ---- the writer's side
+
+-- T2-MI packets for one call of the writer, and the output that is lent to it, which holds anything
+pub record Batch : Type 0 where
+  pub packets : List (List ℕ)
+  pub out : List ℕ
+
+-- a batch that 01 lets the writer take: whole packets whose CRCs hold, not over 65,536 bytes, and room for the exact result
+pub record Carriable (b : Batch) : Type 0 where
+  pub whole : AllWhole (b .packets)
+  pub bytes : Bytes (joined (b .packets))
+  pub short : length (joined (b .packets)) ≤ 65536
+  pub room : 188 * length (loadsOf (b .packets)) ≤ length (b .out)
+
+abbrev pub AllCarriable : List Batch → Type 0
+AllCarriable [] = Unit
+AllCarriable (b ∷ bs) = Carriable b × AllCarriable bs
+
+-- the T2-MI packets of all batches
+abbrev pub packetsOf : List Batch → List (List ℕ)
+packetsOf [] = []
+packetsOf (b ∷ bs) = b .packets ++ packetsOf bs
+
+-- batch after batch on one PID, the count running on
+abbrev pub carryAll : Library → ℕ → ℕ → List Batch → List (List ℕ)
+carryAll lib pid count [] = []
+carryAll lib pid count (b ∷ bs) =
+    let o = lib .carry pid count (joined (b .packets)) (b .out) in
+    transports o ++ carryAll lib pid (o .answer .«next_count») bs
+
+-- ---- the reader's side
+
+-- what a call tells: the bytes that it wrote, the number of its packets, and its marks
+pub record Told : Type 0 where
+  pub bytes : List ℕ
+  pub packets : ℕ
+  pub loss : Bool
+  pub misfit : Bool
+  pub crc : Bool
+
+abbrev pub toldBy : gathering.Outcome → Told
+toldBy o =
+    record {
+      bytes = take (o .answer .bytes) (o .output);
+      packets = o .answer .packets;
+      loss = o .answer .loss;
+      misfit = o .answer .misfit;
+      crc = o .answer .crc;
+    }
+
+-- call after call: the state and the gathering buffer are as the last call left them, the output holds anything
+abbrev pub run : Library → Reader → List ℕ → (ℕ → List ℕ) → List (List ℕ) → List Told
+run lib s gathering outs [] = []
+run lib s gathering outs (t ∷ ts) =
+    let o = lib .gather s t gathering (outs 0) in
+    toldBy o ∷ run lib (o .answer .reader) (o .gathering) (λ n. outs (suc n)) ts
+
+-- the packets that a call handed out: its bytes, cut by the packets' own lengths
+abbrev pub handedBy : Told → List (List ℕ)
+handedBy t = cut (t .bytes) .packets
+
+-- whole packets whose CRCs hold, and nothing else; and as many as it says
+pub record Clean (t : Told) : Type 0 where
+  pub bytes : joined (handedBy t) ≡ t .bytes
+  pub number : t .packets ≡ length (handedBy t)
+
+abbrev pub handedOut : List Told → List (List ℕ)
+handedOut [] = []
+handedOut (t ∷ ts) = handedBy t ++ handedOut ts
+
+abbrev pub losses : List Told → List Bool
+losses [] = []
+losses (t ∷ ts) = t .loss ∷ losses ts
+
+-- neither a misfit nor a wrong CRC is marked
+abbrev pub Fitting : List Told → Type 0
+Fitting [] = Unit
+Fitting (t ∷ ts) = (t .misfit ≡ false) × (t .crc ≡ false) × Fitting ts
+
+-- what the calls told, where these packets and these loss marks are due
+pub record Exactly (packets : List (List ℕ)) (marks : List Bool) (ts : List Told) : Type 0 where
+  pub handed : handedOut ts ≡ packets
+  pub marked : losses ts ≡ marks
+  pub fitting : Fitting ts
+
+-- ---- the demand
+
+-- whatever arrives, in any state, only whole packets whose CRCs hold are handed out
+abbrev pub AlwaysClean : Library → Type 0
+AlwaysClean lib = (s : Reader) (t gathering output : List ℕ) → Clean (toldBy (lib .gather s t gathering output))
+
+-- the transport packets carry the batches' bytes, all of them and in order
+abbrev pub CarriesAll : Library → Type 0
+CarriesAll lib =
+    (pid count : ℕ) → pidOutside pid ≡ false → count < 16 → (batches : List Batch) → AllCarriable batches
+    → joined (streamOf (carryAll lib pid count batches)) ≡ joined (packetsOf batches)
+
+-- a fresh reader of that PID, with buffers of 01's sizes, over any route
+abbrev pub GathersExactly : Library → Type 0
+GathersExactly lib =
+    (pid count : ℕ) → pidOutside pid ≡ false → count < 16 → (batches : List Batch) → AllCarriable batches
+    → (is : List Item) → Route pid (length (carryAll lib pid count batches)) nothing is
+    → (gathering : List ℕ) → 8202 ≤ length gathering
+    → (outs : ℕ → List ℕ) → ((n : ℕ) → 8385 ≤ length (outs n))
+    → Exactly (due (arrives is) (carryAll lib pid count batches) 0 (packetsOf batches)) (lossMarks nothing is)
+    (run lib (lib .start pid .reader) gathering outs (inputs (carryAll lib pid count batches) is))
+
+pub record Demand3 (lib : Library) : Type 0 where
+  pub clean : AlwaysClean lib
+  pub carried : CarriesAll lib
+  pub exactly : GathersExactly lib
