@@ -12,10 +12,10 @@ use Rattle.crc.proofs.after_bytes.Statement.{statement}
 use Rattle.crc.proofs.after_bytes.Tie as tie
 
 abbrev Inv-loop : tie.InvT-loop
-Inv-loop table start bytes register₀ i₀ register i = run register (drop i bytes) ≡ run start bytes
+Inv-loop tables start bytes register₀ i₀ register i = run register (drop i bytes) ≡ run start bytes
 
 abbrev μ-loop : tie.MeasureT-loop
-μ-loop table start bytes register₀ i₀ register i = length bytes - i
+μ-loop tables start bytes register₀ i₀ register i = length bytes - i
 
 loop-holds : tie.Need-loop-holds Inv-loop μ-loop
 loop-holds c = search needs
