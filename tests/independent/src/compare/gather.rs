@@ -309,35 +309,50 @@ fn coming(prng: &mut Prng, packet: &[u8], waiting: usize, size: usize) -> Vec<u8
     data
 }
 
-/// A waiting packet that ends before, at and after every place of a start.
-fn every_end_before_a_start(session: &mut Session) -> Outcome {
-    for pointer in 0..=182_usize {
-        for needed in [
-            1,
-            pointer.saturating_sub(1),
-            pointer,
-            pointer + 1,
-            pointer + 40,
-        ] {
-            for waiting in [1, 5, 6, 9, 100] {
-                for good in [false, true] {
-                    ends_before_a_start(session, pointer, needed, waiting, good)?;
-                }
+/// A waiting packet and what comes of it: `before` bytes come before a start, or without one; the packet needs `needed` more.
+#[derive(Clone, Copy)]
+struct Ending {
+    before: usize,
+    needed: usize,
+    waiting: usize,
+    good: bool,
+}
+
+type Ends = fn(&mut Session, Ending) -> Outcome;
+
+/// The packet ends before, at and after the last of these bytes, with a right and a wrong CRC.
+fn every_end(session: &mut Session, before: usize, ends: Ends) -> Outcome {
+    let about = [before.saturating_sub(1), before, before + 1, before + 40];
+    for needed in [1].into_iter().chain(about) {
+        for waiting in [1, 5, 6, 9, 100] {
+            for good in [false, true] {
+                let ending = Ending {
+                    before,
+                    needed,
+                    waiting,
+                    good,
+                };
+                ends(session, ending)?;
             }
         }
     }
     Ok(())
 }
 
-fn ends_before_a_start(
-    session: &mut Session,
-    pointer: usize,
-    needed: usize,
-    waiting: usize,
-    good: bool,
-) -> Outcome {
+/// At every place of a start.
+fn every_end_before_a_start(session: &mut Session) -> Outcome {
+    (0..=182).try_for_each(|pointer| every_end(session, pointer, ends_before_a_start))
+}
+
+/// Without a start, for every size of payload.
+fn every_end_without_start(session: &mut Session) -> Outcome {
+    (1..=184).try_for_each(|size| every_end(session, size, ends_without_start))
+}
+
+fn ends_before_a_start(session: &mut Session, ending: Ending) -> Outcome {
     let prng = &mut session.prng;
-    let Some(packet) = split_packet(prng, waiting, needed, good) else {
+    let (pointer, waiting) = (ending.before, ending.waiting);
+    let Some(packet) = split_packet(prng, waiting, ending.needed, ending.good) else {
         return Ok(());
     };
     let mut payload = vec![pointer as u8];
@@ -356,32 +371,13 @@ fn ends_before_a_start(
     take(session, &mut receiver, &transport)
 }
 
-/// The same without a start, for every size of payload.
-fn every_end_without_start(session: &mut Session) -> Outcome {
-    for size in 1..=184_usize {
-        for needed in [1, size - 1, size, size + 1, size + 40] {
-            for waiting in [1, 5, 6, 9, 100] {
-                for good in [false, true] {
-                    ends_without_start(session, size, needed, waiting, good)?;
-                }
-            }
-        }
-    }
-    Ok(())
-}
-
-fn ends_without_start(
-    session: &mut Session,
-    size: usize,
-    needed: usize,
-    waiting: usize,
-    good: bool,
-) -> Outcome {
+fn ends_without_start(session: &mut Session, ending: Ending) -> Outcome {
     let prng = &mut session.prng;
-    let Some(packet) = split_packet(prng, waiting, needed, good) else {
+    let waiting = ending.waiting;
+    let Some(packet) = split_packet(prng, waiting, ending.needed, ending.good) else {
         return Ok(());
     };
-    let payload = coming(prng, &packet, waiting, size);
+    let payload = coming(prng, &packet, waiting, ending.before);
     let transport = ways::transport(prng, PID, 5, false, &payload);
     let mut receiver = Receiver::waiting(prng, &packet[..waiting]);
     take(session, &mut receiver, &transport)
@@ -393,9 +389,15 @@ fn longest_packets(session: &mut Session) -> Outcome {
         for needed in [size - 1, size, size + 1] {
             let waiting = LONGEST - needed;
             for good in [false, true] {
-                ends_without_start(session, size, needed, waiting, good)?;
+                let ending = Ending {
+                    before: size,
+                    needed,
+                    waiting,
+                    good,
+                };
+                ends_without_start(session, ending)?;
                 if size <= 182 {
-                    ends_before_a_start(session, size, needed, waiting, good)?;
+                    ends_before_a_start(session, ending)?;
                 }
             }
         }

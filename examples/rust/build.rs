@@ -1,0 +1,14 @@
+//! Links the proved library. SFN_LIB_DIR is the directory of libboundary.a.
+
+use std::env;
+
+fn main() {
+    println!("cargo:rerun-if-changed=build.rs");
+    println!("cargo:rerun-if-env-changed=SFN_LIB_DIR");
+    let directory = env::var("SFN_LIB_DIR")
+        .expect("SFN_LIB_DIR must name the directory of libboundary.a (rt staticlib boundary)");
+    // Without this line a rebuilt library would stay linked in its old form.
+    println!("cargo:rerun-if-changed={directory}/libboundary.a");
+    println!("cargo:rustc-link-search=native={directory}");
+    println!("cargo:rustc-link-lib=static=boundary");
+}
