@@ -5,5 +5,7 @@ pub mod RoundTrips
 pub mod HeldLaws
 pub mod ScanLaws
 pub mod WalkLaws
+pub mod StepLaws
+pub mod Owned
 pub mod GroupLaws
 pub mod RowLaws

@@ -5,7 +5,7 @@ use mathlib.Core.Bool.{cond}
 use mathlib.Core.List.{List, [], _∷_, _++_, map, append-assoc}
 use Prim.Native.Nat.{ℕ, zero, suc, _+_, _≤_, _<_}
 use native.Mathlib.Omega.{arith}
-use lib.Dec.{leb}
+use lib.Dec.{eqb, leb}
 use lib.ListN.{length}
 use borrow.Author.Tests.{lt-ltb, le-ltb, eq-eqb, ne-eqb}
 use Rattle.fields.proofs.Cases.{cases}
@@ -104,6 +104,15 @@ module _ (d : List ℕ) (tx : ℕ) (short : length d ≤ 255) (good : faultOf d 
   walk-end pre e =
       let p = lastEnd 0 pre in
       walk-there pre [] e ∙ ap (answerOf p (length d)) (scan-nothing p p [] refl) ∙ rw (eq-eqb p p refl)
+
+  -- at the data's end there is none, however it was reached
+  pub walk-ended : walkOf d tx (length d) ≡ ended (length d)
+  unfolding answerOf
+  walk-ended =
+      let n = length d in
+      walk-scan d tx n short good
+      ∙ ap (answerOf n n) (scan-past 0 n n (functionsFor tx d) (for-rising tx d) (omega arith))
+      ∙ cases (eqb n (lastEnd 0 (functionsFor tx d))) (λ t. rw t) (λ t. rw (t, eq-eqb n n refl))
 
   walk-next : (pre : List Placed) (g : Placed) (gs : List Placed) → functionsFor tx d ≡ pre ++ g ∷ gs → walkOf d tx (lastEnd 0 pre) ≡ given g
   unfolding answerOf

@@ -2,6 +2,7 @@
 pub mod Data
 pub mod Payload
 pub mod Walk
+pub mod Steps
 pub mod Groups
 pub mod Scan
 pub mod Rows

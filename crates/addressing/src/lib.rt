@@ -1,5 +1,10 @@
 // Individual addressing: the data's check, the payload of type 0x21, and the walk for one transmitter.
+mod walks;
+
 use refusals::Written;
+pub use walks::Stepped;
+pub use walks::Walk;
+pub use walks::walk_from;
 ghost use mathlib.Core.Path.{_≡_};
 ghost use mathlib.Core.Bool.{false};
 ghost use Prim.Native.Nat.{ℕ, _+_, _<_, _^_};
@@ -304,8 +309,8 @@ fn scan_data(data: &[u8], transmitter: u16, place: usize) -> Walked
     finished(place, last, data.len())
 }
 
-// The walk for one transmitter: what it finds from a place on, and where to go on from.
-pub fn walk(data: &[u8], transmitter: u16, place: usize) -> Walked
+// The walk for one transmitter: what it finds from a place on, and where to go on from. Callers have it by `walk_from`.
+fn walk(data: &[u8], transmitter: u16, place: usize) -> Walked
     ensures { λ r. ⌜ r ≡ walkOf (now («data» .entry)) transmitter place ⌝ }
 {
     if 255 < data.len() {

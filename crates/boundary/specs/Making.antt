@@ -2,12 +2,13 @@
 -- with a kind that carries none, and a value too wide for the type that holds it make none, for which 38 is answered; what
 -- is too wide for its bits in the body is judged where the body is written.
 use Prim.Native.Nat.{ℕ}
-use mathlib.Core.Bool.{Bool, cond, not}
+use mathlib.Core.Bool.{cond, not}
 use mathlib.Core.List.{List}
 use lib.Dec.{eqb, ltb}
 use lib.IntN.{ℤ, pos, negsuc}
+use Rattle.fields.specs.Signed.{beyondSigned}
 use Rattle.refusals.specs.Answers.{Wrote}
-use Rattle.functions.specs.Write.{beyondSigned, writeOf}
+use Rattle.functions.specs.Write.{writeOf}
 use Rattle.functions.specs.declared.Function.the-variants.{TimeOffset, FrequencyOffset, Power, Private, Cell, Enable, Bandwidth, Passed}
 use Rattle.boundary.specs.declared.Made.{Made}
 use Rattle.boundary.specs.declared.Made.the-variants.{Unfit, Fit}

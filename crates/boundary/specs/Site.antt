@@ -1,6 +1,6 @@
 -- Addressing, the MIP and site timing, laid out flat, and a MIP's arguments put together.
-use Prim.Native.Nat.{ℕ}
-use mathlib.Core.Bool.{Bool, cond}
+use Prim.Native.Nat.{ℕ, _^_, _<_}
+use mathlib.Core.Bool.{cond}
 use mathlib.Core.List.{List}
 use lib.Dec.{eqb, ltb}
 use lib.ListN.{length}
@@ -8,6 +8,7 @@ use Rattle.refusals.specs.Answers.{Wrote}
 use Rattle.addressing.specs.declared.PayloadRead.{PayloadRead}
 use Rattle.addressing.specs.declared.Step.{Step}
 use Rattle.addressing.specs.declared.Step.the-variants.{Given, End}
+use Rattle.addressing.specs.declared.Walked.{Walked}
 use Rattle.mip.specs.Write.{writeOf}
 use Rattle.mip.specs.declared.MipRead.{MipRead}
 use Rattle.mip.specs.declared.Time.{Time}
@@ -17,17 +18,20 @@ use Rattle.boundary.specs.declared.site.SfnWalked.{SfnWalked}
 use Rattle.boundary.specs.declared.site.SfnMip.{SfnMip}
 use Rattle.boundary.specs.declared.site.SfnTime.{SfnTime}
 
--- a count in 32 bits: itself, and never wrapped
-unfoldable pub counted : ℕ → ℕ
-counted n = cond (ltb 0xffffffff n) 0xffffffff n
-
 abbrev pub addressingOf : PayloadRead → SfnAddressing
-addressingOf p = record { refusal = p .refusal; bytes = counted (p .bytes) }
+addressingOf p = record { refusal = p .refusal; bytes = p .bytes }
 
-abbrev pub walkedOf : ℕ → ℕ → Step → SfnWalked
-walkedOf n next (Given tag start body) =
-    record { refusal = n; start = counted start; body = counted body; next = counted next; given = 1; tag = tag }
-walkedOf n next End = record { refusal = n; start = 0; body = 0; next = counted next; given = 0; tag = 0 }
+abbrev pub stepOf : ℕ → ℕ → Step → SfnWalked
+stepOf n next (Given tag start body) = record { refusal = n; start = start; body = body; next = next; given = 1; tag = tag }
+stepOf n next End = record { refusal = n; start = 0; body = 0; next = next; given = 0; tag = 0 }
+
+abbrev pub walkedOf : Walked → SfnWalked
+walkedOf w = stepOf (w .refusal) (w .next) (w .step)
+
+-- a step's numbers fit C's 32 bits: only a private function cites this
+abbrev pub StepFits : Step → Type 0
+StepFits (Given tag start body) = (start < 2 ^ 32) × (body < 2 ^ 32)
+StepFits End = Unit
 
 abbrev pub mipFlat : MipRead → SfnMip
 mipFlat p =
@@ -36,7 +40,7 @@ mipFlat p =
       stamp = p .mip .stamp .0;
       delay = p .mip .delay .0;
       tps = p .mip .tps;
-      addressing = counted (p .addressing);
+      addressing = p .addressing;
       pointer = p .mip .pointer;
       future = p .mip .future;
       count = p .mip .count;

@@ -19,6 +19,7 @@ pub use site::sfn_walk;
 use stamp::Stamp;
 use stamp::Subseconds;
 ghost use mathlib.Core.Path.{_≡_};
+ghost use Prim.Native.Nat.{_^_, _<_};
 ghost use Rattle.crc.specs.Crc.{crcOf};
 ghost use Rattle.packet.specs.Read.{readOf};
 ghost use Rattle.packet.specs.Write.{writeOf};
@@ -27,9 +28,7 @@ ghost use Rattle.functions.specs.Read.{functionRead};
 ghost use Rattle.stamp.specs.Read.{readOf as stampRead};
 ghost use Rattle.stamp.specs.Write.{writeOf as stampWritten};
 ghost use Rattle.boundary.specs.Answers.{packetOf, stampOf, stampFrom, bitOf, ofKind, functionOf};
-ghost use Rattle.boundary.specs.Site.{counted};
 ghost use Rattle.boundary.specs.Making.{naturalOf, offsetMade, waitingMade, powerMade, madeOf, functionWritten};
-ghost use Rattle.functions.specs.Write.{beyondSigned};
 ghost use lib.ListN.{length};
 
 // What reading a T2-MI packet gives, with the header's fields beside the refusal.
@@ -151,13 +150,11 @@ pub struct SfnFunction {
     pub reserved: u8,
 }
 
-// A count of bytes in 32 bits. What is counted is a few thousand at most; nothing wraps.
+// A count in C's 32 bits.
 fn count_32(n: usize) -> u32
-    ensures { λ r. ⌜ r ≡ counted n ⌝ }
+    requires { ⌜ n < 2 ^ 32 ⌝ }
+    ensures { λ r. ⌜ r ≡ n ⌝ }
 {
-    if 0xffff_ffff < n {
-        return 0xffff_ffff;
-    }
     n as u32
 }
 
@@ -239,21 +236,11 @@ fn natural(value: i32) -> u32
     value as u32
 }
 
-// Whether a number is beyond 16 bits in two's complement.
-fn beyond_16(value: i32) -> bool
-    ensures { λ r. ⌜ r ≡ beyondSigned 16 value ⌝ }
-{
-    if value < -0x8000 {
-        return true;
-    }
-    0x7fff < value
-}
-
 // A time offset.
 fn offset(value: i32) -> Made
     ensures { λ r. ⌜ r ≡ offsetMade value ⌝ }
 {
-    if beyond_16(value) {
+    if fields::outside(0x8000, value) {
         return Made::Unfit;
     }
     Made::Fit(Function::TimeOffset(value as i16))

@@ -1,12 +1,14 @@
 // The gathering reader, as C sees it.
 use super::bit;
 use super::count_32;
+use gather::Gathered;
 use gather::Last;
 use gather::Reader;
 ghost use mathlib.Core.Path.{_≡_};
+ghost use Prim.Native.Nat.{_^_, _<_};
 ghost use denote.Ref.{now};
 ghost use Rattle.gather.specs.State.{startOf};
-ghost use Rattle.boundary.specs.Reader.{lastFrom, lastOf, readerOf, startedOf, gatheredOf, gatheredBy};
+ghost use Rattle.boundary.specs.Reader.{lastFrom, lastOf, readerOf, readerFrom, startedOf, GatherFits, gatheredOf, gatheredBy};
 
 // A reader's state. last is the last count taken, or 255 for none; in_step is 0 or 1.
 #[repr(C)]
@@ -57,6 +59,7 @@ fn last_byte(last: Last) -> u8
 
 // A state laid out flat.
 fn reader_flat(r: Reader) -> SfnReader
+    requires { ⌜ r .waiting < 2 ^ 32 ⌝ }
     ensures { λ s. ⌜ s ≡ readerOf r ⌝ }
 {
     let last = r.last;
@@ -68,6 +71,42 @@ fn reader_flat(r: Reader) -> SfnReader
         last,
         in_step,
         waiting,
+    }
+}
+
+// The reader's state that C's stands for.
+fn reader_from(r: SfnReader) -> Reader
+    ensures { λ s. ⌜ s ≡ readerFrom r ⌝ }
+{
+    let last = last_from(r.last);
+    Reader {
+        pid: r.pid,
+        last,
+        in_step: r.in_step == 1,
+        waiting: r.waiting as usize,
+    }
+}
+
+// An answer laid out flat.
+fn gathered_flat(g: Gathered) -> SfnGathered
+    requires { ⌜ GatherFits g ⌝ }
+    ensures { λ r. ⌜ r ≡ gatheredOf g ⌝ }
+{
+    let reader = g.reader;
+    let reader = reader_flat(reader);
+    let bytes = count_32(g.bytes);
+    let packets = count_32(g.packets);
+    let loss = bit(g.loss);
+    let misfit = bit(g.misfit);
+    let crc = bit(g.crc);
+    SfnGathered {
+        refusal: g.refusal,
+        reader,
+        bytes,
+        packets,
+        loss,
+        misfit,
+        crc,
     }
 }
 
@@ -104,28 +143,7 @@ pub extern "C" fn sfn_gather(
             crc: 0,
         };
     }
-    let last = last_from(reader.last);
-    let state = Reader {
-        pid: reader.pid,
-        last,
-        in_step: reader.in_step == 1,
-        waiting: reader.waiting as usize,
-    };
+    let state = reader_from(reader);
     let g = state.gather(transport, gathering, out);
-    let reader = g.reader;
-    let reader = reader_flat(reader);
-    let bytes = count_32(g.bytes);
-    let packets = count_32(g.packets);
-    let loss = bit(g.loss);
-    let misfit = bit(g.misfit);
-    let crc = bit(g.crc);
-    SfnGathered {
-        refusal: g.refusal,
-        reader,
-        bytes,
-        packets,
-        loss,
-        misfit,
-        crc,
-    }
+    gathered_flat(g)
 }

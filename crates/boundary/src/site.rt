@@ -6,12 +6,13 @@ use mip::Mip;
 use mip::Steps;
 use refusals::Written;
 ghost use mathlib.Core.Path.{_≡_};
+ghost use Prim.Native.Nat.{_^_, _<_};
 ghost use denote.Ref.{now};
 ghost use Rattle.addressing.specs.Payload.{payloadOf, writeOf as addressingWritten};
 ghost use Rattle.addressing.specs.Walk.{walkOf};
 ghost use Rattle.mip.specs.Read.{readOf as mipRead};
 ghost use Rattle.mip.specs.Timing.{emissionOf, extraOf};
-ghost use Rattle.boundary.specs.Site.{addressingOf, walkedOf, mipFlat, mipWritten, timeOf};
+ghost use Rattle.boundary.specs.Site.{addressingOf, stepOf, walkedOf, StepFits, mipFlat, mipWritten, timeOf};
 
 // What reading an addressing payload gives. Its data begins at byte 2.
 #[repr(C)]
@@ -73,7 +74,8 @@ pub extern "C" fn sfn_addressing_write(addressed: &[u8], out: &mut [u8]) -> Writ
 
 // A step laid out flat.
 fn step_flat(refusal: u32, next: usize, step: Step) -> SfnWalked
-    ensures { λ r. ⌜ r ≡ walkedOf refusal next step ⌝ }
+    requires { ⌜ (next < 2 ^ 32) × StepFits step ⌝ }
+    ensures { λ r. ⌜ r ≡ stepOf refusal next step ⌝ }
 {
     let next = count_32(next);
     match step {
@@ -102,9 +104,9 @@ fn step_flat(refusal: u32, next: usize, step: Step) -> SfnWalked
 
 #[no_mangle]
 pub extern "C" fn sfn_walk(addressed: &[u8], transmitter: u16, place: u32) -> SfnWalked
-    ensures { λ r. ⌜ r ≡ walkedOf (walkOf (now (addressed .entry)) transmitter place .refusal) (walkOf (now (addressed .entry)) transmitter place .next) (walkOf (now (addressed .entry)) transmitter place .step) ⌝ }
+    ensures { λ r. ⌜ r ≡ walkedOf (walkOf (now (addressed .entry)) transmitter place) ⌝ }
 {
-    let w = addressing::walk(addressed, transmitter, place as usize);
+    let w = addressing::walk_from(addressed, transmitter, place as usize);
     let step = w.step;
     step_flat(w.refusal, w.next, step)
 }

@@ -1,17 +1,16 @@
 -- Our library meets demand 1.
 -- Assumes nothing.
-use mathlib.Core.Path.{_≡_, refl, sym, ap, _∙_}
+use mathlib.Core.Path.{_≡_, refl, ap, _∙_}
 use mathlib.Core.List.{List, [], _∷_, _++_}
 use Prim.Native.Nat.{ℕ, _+_, _-_, _*_, _%_, _≤_}
 use native.Mathlib.Nat.{min-le-left}
 use native.Mathlib.Omega.{arith}
 use lib.Dec.{eqb}
-use lib.ListN.{length, take, length-append, length-drop, length-take}
+use lib.ListN.{length, take, length-append, length-take}
 use borrow.Author.Tests.{eqb-true, eqb-false, leb-false}
 use Rattle.fields.specs.Numbers.{Bytes}
 use Rattle.fields.specs.Parts.{overlay}
 use Rattle.fields.proofs.Cases.{cases}
-use Rattle.fields.proofs.NumberLaws.{bytes-append}
 use Rattle.fields.proofs.PartLaws.{length-overlay, drop-overlay}
 use Rattle.refusals.specs.Checks.{Check, _when_, first}
 use Rattle.refusals.specs.Answers.{answer, Wrote, written}
@@ -35,7 +34,6 @@ use Rattle.mip.specs.Write as mipWriting
 use Rattle.mip.proofs.FieldLaws as mipFields
 use Rattle.mip.proofs.Operations as mip
 use Rattle.mip.proofs.TimingLaws.{emission-shows, emission-refused, extra-shows, extra-refused}
-use Rattle.transport.specs.Header.{starts, pointerOf, payloadAt}
 use Rattle.transport.specs.Tests.{pidOutside}
 use Rattle.carry.specs.Carry as carrying
 use Rattle.carry.specs.Theorems.{Packets}
@@ -44,15 +42,11 @@ use Rattle.carry.proofs.Theorems.{carried-packets, length-numbered}
 use Rattle.gather.specs.State.{startOf, gatherChecks}
 use Rattle.gather.specs.Rules.{none, broughtBy, Hand}
 use Rattle.gather.specs.Gather.{Outcome, inHand, joiners, enteredOf, resultOf, takenOf, gatherOf}
-use Rattle.gather.specs.Theorems.{HandedOut}
 use Rattle.gather.specs.declared.Reader.{Reader}
 use Rattle.gather.specs.declared.Started.{Started}
-use Rattle.packet.proofs.CutLaws.{joined-append}
-use Rattle.gather.proofs.RefusalLaws.{Passed, passed, payload-from}
-use Rattle.gather.proofs.JoinLaws.{Small, front-small}
-use Rattle.gather.proofs.GatherLaws.{brings-start, brings-plain}
-use Rattle.gather.proofs.StateLaws.{start-taken, fresh-fit, rule-cases, before-bytes, entered-bytes, gather-fit, result-few}
-use Rattle.gather.proofs.HandedLaws.{result-handed}
+use Rattle.gather.proofs.RefusalLaws.{Passed, passed}
+use Rattle.gather.proofs.StateLaws.{start-taken, fresh-fit, rule-cases, entered-bytes, gather-fit, result-few}
+use Rattle.gather.proofs.HandedLaws.{both-bytes, packets-few}
 use Rattle.demands.specs.Library.{ours}
 use Rattle.demands.specs.Demand1.{Answers, Kept, wroteNothing, Writes, carriedNothing, Carries, noReader, Starts, gatheredNothing, Gathers, Demand1}
 
@@ -165,9 +159,6 @@ module _ (s : Reader) (t g o : List ℕ) (bt : Bytes t) (bg : Bytes g) (p : Pass
   abbrev r : Hand
   r = resultOf s t g
 
-  both-bytes : Bytes (e .waiting ++ d)
-  both-bytes = bytes-append (e .waiting) d (entered-bytes s t g bg) (before-bytes t bt)
-
   waiting-few : length (e .waiting) ≤ 8202
   waiting-few =
       rule-cases (λ h. Bytes (h .waiting) → length (h .waiting) ≤ 8202) (s .last) (broughtBy t .count) (inHand s g)
@@ -179,33 +170,16 @@ module _ (s : Reader) (t g o : List ℕ) (bt : Bytes t) (bg : Bytes g) (p : Pass
   gathering-kept : Kept 8202 g (takenOf s t g o .gathering)
   unfolding takenOf
   gathering-kept =
-      let j : length (e .waiting) + length (joiners d e) ≤ 8202 = joiners-few d e both-bytes waiting-few in
+      let j : length (e .waiting) + length (joiners d e) ≤ 8202 = joiners-few d e (both-bytes s t g bt bg) waiting-few in
       let w : length (r .waiting) ≤ 8201 = result-few s t g o bt bg (p .fit) in
       let m : List ℕ = overlay (length (e .waiting)) (joiners d e) g in
       let k : Kept 8202 g m = laid 8202 (length (e .waiting)) (joiners d e) g j (omega (arith, p .roomy)) in
       again 8202 g m (overlay 0 (r .waiting) m) k (laid 8202 0 (r .waiting) m (omega arith) (omega (arith, k .long, p .roomy)))
 
-  -- 8,202 bytes that were begun before, and 183 from the start on
-  onward-few : length (broughtBy t .onward) ≤ 183
-  onward-few =
-      cases (starts t)
-      (λ b. rw (brings-start t b, length-drop (payloadAt t + 1 + pointerOf t) t) (omega (arith, p .whole, payload-from t)))
-      (λ b. rw (brings-plain t b (p .whole)) (omega arith))
-
-  packets-few : length (joined (r .packets)) ≤ 8385
-  packets-few =
-      let h : HandedOut (e .waiting) d (broughtBy t .onward) (r .packets) = result-handed s t g in
-      let n : length (joined (r .packets)) ≡ length (joined (h .one)) + length (joined (h .others)) =
-      ap (λ (ps : List (List ℕ)). length (joined ps)) (h .is) ∙ ap length (joined-append (h .one) (h .others)) ∙ length-append (joined (h .one)) (joined (h .others)) in
-      let f : length (joined (h .others)) + length (h .rest) ≡ length (broughtBy t .onward) =
-      sym (length-append (joined (h .others)) (h .rest)) ∙ ap length (h .follow) in
-      let one : Small (h .one) = front-small both-bytes (h .joins) in
-      omega (arith, n, f, onward-few, one .bytes)
-
   output-kept : Kept (takenOf s t g o .answer .bytes) o (takenOf s t g o .output)
   unfolding takenOf
   output-kept =
-      laid (length (joined (r .packets))) 0 (joined (r .packets)) o (omega arith) (omega (arith, packets-few, p .spacious))
+      laid (length (joined (r .packets))) 0 (joined (r .packets)) o (omega arith) (omega (arith, packets-few s t g bt bg (p .whole), p .spacious))
 
 module _ (s : Reader) (t g o : List ℕ) where
   abbrev asked : List Check

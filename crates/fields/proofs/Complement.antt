@@ -2,19 +2,19 @@
 -- by tests of order. Over any width w that the integer's W holds.
 -- Assumes nothing.
 use mathlib.Core.Path.{_≡_, refl, sym, ap, _∙_, subst}
-use mathlib.Core.Bool.{true, false, not}
+use mathlib.Core.Bool.{true, false}
 use Prim.Native.Nat.{ℕ, zero, suc, _-_, _^_, _≤_, _<_}
 use native.Mathlib.Nat.{not-suc-le-zero, lt-of-lt-of-le}
 use native.Mathlib.Omega.{arith}
-use lib.Dec.{T, ltb}
+use lib.Dec.{T}
 use lib.IntN.{ℤ, pos, negsuc, natAbs, _+ℤ_, _-ℤ_}
 use lib.Pow.{pow-mono}
 use lib.Signed.{mag, nonNeg, ltZ}
 use mir.Syntax.{Width}
 use mir.Val.{bits, hbits, Fits, SFits, toZ, ofZ}
 use mir.ValLaws.{toZ-pos, toZ-ofZ}
-use borrow.Author.Tests.{lt-ltb, le-ltb, ltb-true, ltb-false}
-use Rattle.fields.proofs.Cases.{cases, true≢false}
+use borrow.Author.Tests.{lt-ltb, le-ltb, ltb-true}
+use Rattle.fields.proofs.Cases.{true≢false}
 use Rattle.fields.proofs.SignedLaws.{signed-pos, signed-neg, signed-in, unsigned-lt}
 use Rattle.fields.specs.Signed.{signed, unsigned, InSigned}
 
@@ -76,15 +76,15 @@ module _ (W : Width) (w : ℕ) (z : ℤ) (v : 0 < w) (narrow : w ≤ hbits W) (i
   pub below : ltZ z (pos 0) ≡ true → toZ W (ofZ W (z +ℤ pos (2 ^ w))) ≡ pos (unsigned w z)
   below t = toZ-ofZ W (z +ℤ pos (2 ^ w)) (below-fits t) ∙ more-whole w z v i t
 
--- ---- the range of a width, as two tests: below the least number, and above the greatest
+-- ---- how far a number is from 0, and a negative one from -1
 
-pub below-least : (h : ℕ) (z : ℤ) → ltZ z (negsuc h) ≡ true → not (ltb (mag z) (suc h)) ≡ true
-below-least h (pos n) t = absurd (true≢false (sym t))
-below-least h (negsuc k) t = ap not (le-ltb k (suc h) (ltb-true h k t))
+pub mirrored : (z : ℤ) → ltZ z (pos 0) ≡ true → negsuc 0 -ℤ z ≡ pos (mag z)
+mirrored (pos n) t = absurd (not-suc-le-zero (ltb-true n 0 t))
+mirrored (negsuc k) t = rw (le-ltb (suc k) 1 (omega arith)) (ap pos (less-one k))
+  where
+    less-one : (k : ℕ) → suc k - 1 ≡ k
+    less-one k = omega arith
 
-pub above-greatest : (h : ℕ) (z : ℤ) → ltZ z (negsuc h) ≡ false → ltZ (pos h) z ≡ not (ltb (mag z) (suc h))
-above-greatest h (pos n) t =
-    cases (ltb h n)
-    (λ s. s ∙ sym (ap not (le-ltb n (suc h) (ltb-true h n s))))
-    (λ s. s ∙ sym (ap not (lt-ltb n (suc h) (omega (arith, ltb-false h n s)))))
-above-greatest h (negsuc k) t = sym (ap not (lt-ltb k (suc h) (omega (arith, ltb-false h k t))))
+pub not-mirrored : (z : ℤ) → ltZ z (pos 0) ≡ false → z ≡ pos (mag z)
+not-mirrored (pos n) t = refl
+not-mirrored (negsuc k) t = absurd (true≢false t)

@@ -3,6 +3,7 @@ ghost use mathlib.Core.Path.{_≡_};
 ghost use Prim.Native.Nat.{_+_};
 ghost use lib.Dec.{leb};
 ghost use lib.ListN.{getD};
+ghost use Rattle.fields.specs.Signed.{outside};
 ghost use Rattle.fields.specs.Parts.{numberAt, storedAt, copiedTo};
 
 // Whether n elements from index at on lie within len. The sum of at and n is never made: it may not fit.
@@ -13,6 +14,17 @@ pub fn within(at: usize, n: usize, len: usize) -> bool
         return false;
     }
     n <= len - at
+}
+
+// Whether z is less than -half, or not less than half.
+pub fn outside(half: u32, z: i32) -> bool
+    ensures { λ r. ⌜ r ≡ outside half z ⌝ }
+{
+    if z < 0 {
+        let mirrored = -1 - z;
+        return half <= mirrored as u32;
+    }
+    half <= z as u32
 }
 
 // The byte of s at at; 0 past its end.

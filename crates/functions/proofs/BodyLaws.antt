@@ -2,32 +2,20 @@
 -- format that fills them.
 -- Assumes nothing.
 use mathlib.Core.Path.{_≡_, sym, ap, _∙_, subst}
-use mathlib.Core.Bool.{false, not}
+use mathlib.Core.Bool.{false}
 use mathlib.Core.List.{List, [], _∷_}
 use Prim.Native.Nat.{ℕ, _+_, _*_, _^_, _≤_, _<_}
 use native.Mathlib.Omega.{arith}
-use lib.IntN.{ℤ, pos, negsuc}
+use lib.IntN.{ℤ}
 use lib.ListN.{length, getD}
-use borrow.Author.Tests.{lt-ltb, ltb-true, not-false}
 use Rattle.fields.specs.Formats.{span, pack, unpack, Fit}
 use Rattle.fields.specs.Numbers.{Bytes, number, bytes}
 use Rattle.fields.specs.Parts.{numberAt}
-use Rattle.fields.specs.Signed.{signed, unsigned, InSigned}
+use Rattle.fields.specs.Signed.{signed, unsigned, InSigned, beyondSigned}
 use Rattle.fields.proofs.FormatLaws.{pack-lt, pack-unpack, unpack-pack}
 use Rattle.fields.proofs.NumberLaws.{number-bytes, number-lt, bytes-number, number-cons, number-nil}
 use Rattle.fields.proofs.PartLaws.{number-at, part-whole}
-use Rattle.fields.proofs.SignedLaws.{unsigned-signed, signed-in, unsigned-lt, signed-unsigned}
-use Rattle.functions.specs.Write.{beyondSigned}
-
--- ---- the test of a signed number's range
-
-pub in-signed : (w : ℕ) (z : ℤ) → beyondSigned w z ≡ false → InSigned w z
-in-signed w (pos n) h = ltb-true _ _ (not-false _ h)
-in-signed w (negsuc k) h = ltb-true _ _ (not-false _ h)
-
-pub not-beyond : (w : ℕ) (z : ℤ) → InSigned w z → beyondSigned w z ≡ false
-not-beyond w (pos n) h = ap not (lt-ltb _ _ h)
-not-beyond w (negsuc k) h = ap not (lt-ltb _ _ h)
+use Rattle.fields.proofs.SignedLaws.{unsigned-signed, signed-in, in-signed, not-beyond, unsigned-lt, signed-unsigned}
 
 -- ---- from what is held to the body and back
 

@@ -1,23 +1,18 @@
 -- Writing a function's body: fields to body (01: 38, 29, 16 in this order).
-use Prim.Native.Nat.{ℕ, _-_, _^_, _≤_}
+use Prim.Native.Nat.{ℕ, _≤_}
 use mathlib.Core.Path.{_≡_}
-use mathlib.Core.Bool.{Bool, false, not}
+use mathlib.Core.Bool.{Bool, false}
 use mathlib.Core.List.{List, [], _∷_}
 use lib.Dec.{ltb}
-use lib.IntN.{ℤ}
 use lib.ListN.{length}
-use lib.Signed.{mag}
 use Rattle.fields.specs.Formats.{tooWide}
+use Rattle.fields.specs.Signed.{beyondSigned}
 use Rattle.refusals.specs.Checks.{Check, _when_}
 use Rattle.refusals.specs.Answers.{Wrote, written}
 use Rattle.functions.specs.Tags.{bodies, cell, bandwidth, bodyLong, valueReserved}
 use Rattle.functions.specs.Function.{cellFields, bandwidthFields, bodyOf}
 use Rattle.functions.specs.declared.Function.{Function}
 use Rattle.functions.specs.declared.Function.the-variants.{TimeOffset, FrequencyOffset, Power, Private, Cell, Enable, Bandwidth, Passed}
-
--- w bits cannot stand for it in two's complement (`mag z` is n for n, and for the number one less than the negative of n)
-abbrev pub beyondSigned : ℕ → ℤ → Bool
-beyondSigned w z = not (ltb (mag z) (2 ^ (w - 1)))
 
 -- a value is too wide for its bits, or a passed-through function has a tag of the table (01, refusal 38)
 unfoldable pub unfit : Function → Bool

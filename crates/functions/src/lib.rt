@@ -11,7 +11,7 @@ ghost use Rattle.refusals.specs.Checks.{first};
 ghost use Rattle.functions.specs.Tags.{cell, bandwidth, bodyLong, bodyWrong, valueReserved, bandwidthReserved};
 ghost use Rattle.functions.specs.Function.{functionOf, cellFields, bandwidthFields, bodyOf};
 ghost use Rattle.functions.specs.Read.{readChecks, functionRead};
-ghost use Rattle.functions.specs.Write.{beyondSigned, unfit, reserved, writeChecks, Writable, writeOf};
+ghost use Rattle.functions.specs.Write.{unfit, reserved, writeChecks, Writable, writeOf};
 
 // A function by its kind. Private, Enable and Passed carry bytes, which stand beside it; Passed holds its tag.
 pub enum Function {
@@ -112,16 +112,6 @@ fn unsigned_24(z: i32) -> u64
     z as u64
 }
 
-// Whether a number is beyond 24 bits in two's complement.
-fn beyond_24(z: i32) -> bool
-    ensures { λ r. ⌜ r ≡ beyondSigned 24 z ⌝ }
-{
-    if z < -0x80_0000 {
-        return true;
-    }
-    0x7F_FFFF < z
-}
-
 // The function of a tag and a body of its length.
 fn function_of(tag: u8, body: &[u8]) -> Function
     requires { ⌜ bodyWrong tag (length (now body)) ≡ false ⌝ }
@@ -203,7 +193,7 @@ fn is_unfit(f: Function) -> bool
 {
     match f {
         Function::TimeOffset(_z) => false,
-        Function::FrequencyOffset(z) => beyond_24(z),
+        Function::FrequencyOffset(z) => fields::outside(0x80_0000, z),
         Function::Power(_p) => false,
         Function::Private => false,
         Function::Cell {

@@ -4,21 +4,28 @@
 use mathlib.Core.Path.{_≡_, refl, sym, ap, _∙_}
 use mathlib.Core.Bool.{false}
 use mathlib.Core.List.{List, [], _∷_, _++_, append-nil}
-use Prim.Native.Nat.{ℕ, _<_}
-use lib.ListN.{take}
+use Prim.Native.Nat.{ℕ, _+_, _*_, _≤_, _<_}
+use native.Mathlib.Omega.{arith}
+use lib.ListN.{length, take, length-append, length-drop}
+use Rattle.fields.specs.Numbers.{Bytes}
 use Rattle.fields.proofs.Cases.{cases}
+use Rattle.fields.proofs.NumberLaws.{bytes-append}
 use Rattle.fields.proofs.PartLaws.{take-front}
 use Rattle.packet.specs.Layout.{sizeOf}
 use Rattle.packet.specs.Cut.{Cut, cut, joined}
-use Rattle.packet.proofs.CutLaws.{AllWhole, cut-cuts, first-whole, cut-all}
+use Rattle.packet.proofs.LayoutLaws.{size-least}
+use Rattle.packet.proofs.CutLaws.{AllWhole, cut-cuts, first-whole, cut-all, joined-append}
+use Rattle.transport.specs.Header.{starts, pointerOf, payloadAt}
 use Rattle.gather.specs.State.{unfit}
 use Rattle.gather.specs.Rules.{Brought, broughtBy, Hand, upToStart, unfinished, follows, rulesOn}
 use Rattle.gather.specs.Gather.{inHand, enteredOf, resultOf, takenOf}
 use Rattle.gather.specs.Theorems.{Front, nothing, finished-one, HandedOut}
 use Rattle.gather.specs.declared.Reader.{Reader}
-use Rattle.gather.proofs.JoinLaws.{front}
+use Rattle.gather.proofs.RefusalLaws.{payload-from}
+use Rattle.gather.proofs.JoinLaws.{Small, front-small, front}
 use Rattle.gather.proofs.StartLaws.{unfinished-packets, follows-packets}
-use Rattle.gather.proofs.StateLaws.{rule-cases, result-order}
+use Rattle.gather.proofs.GatherLaws.{brings-start, brings-plain}
+use Rattle.gather.proofs.StateLaws.{rule-cases, before-bytes, entered-bytes, result-order}
 
 -- ---- whence the packets come
 
@@ -81,6 +88,39 @@ result-handed s t g = handed-out (broughtBy t) (enteredOf s t g) (entered-none s
 
 pub result-whole : (s : Reader) (t g : List ℕ) → AllWhole (resultOf s t g .packets)
 result-whole s t g = handed-whole (broughtBy t) (enteredOf s t g) (entered-none s t g)
+
+-- ---- how many they are
+
+-- a whole packet has at least ten bytes
+whole-number : (ps : List (List ℕ)) → AllWhole ps → 10 * length ps ≤ length (joined ps)
+unfolding joined
+whole-number [] w = omega arith
+whole-number (p ∷ ps) w = rw (length-append p (joined ps)) (omega (arith, w .0 .size, size-least p, whole-number ps (w .1)))
+
+pub packets-number : (s : Reader) (t g : List ℕ) → 10 * length (resultOf s t g .packets) ≤ length (joined (resultOf s t g .packets))
+packets-number s t g = whole-number (resultOf s t g .packets) (result-whole s t g)
+
+module _ (s : Reader) (t g : List ℕ) (bt : Bytes t) (bg : Bytes g) where
+  -- what waits and what comes before the start
+  pub both-bytes : Bytes (enteredOf s t g .waiting ++ broughtBy t .before)
+  both-bytes = bytes-append (enteredOf s t g .waiting) (broughtBy t .before) (entered-bytes s t g bg) (before-bytes t bt)
+
+  onward-few : length t ≡ 188 → length (broughtBy t .onward) ≤ 183
+  onward-few whole =
+      cases (starts t)
+      (λ b. rw (brings-start t b, length-drop (payloadAt t + 1 + pointerOf t) t) (omega (arith, payload-from t)))
+      (λ b. rw (brings-plain t b whole) (omega arith))
+
+  -- 8,202 bytes that were begun before, and 183 from the start on
+  pub packets-few : length t ≡ 188 → length (joined (resultOf s t g .packets)) ≤ 8385
+  packets-few whole =
+      let h = result-handed s t g in
+      let n : length (joined (resultOf s t g .packets)) ≡ length (joined (h .one)) + length (joined (h .others)) =
+      ap (λ (ps : List (List ℕ)). length (joined ps)) (h .is) ∙ ap length (joined-append (h .one) (h .others)) ∙ length-append (joined (h .one)) (joined (h .others)) in
+      let f : length (joined (h .others)) + length (h .rest) ≡ length (broughtBy t .onward) =
+      sym (length-append (joined (h .others)) (h .rest)) ∙ ap length (h .follow) in
+      let one : Small (h .one) = front-small both-bytes (h .joins) in
+      omega (arith, onward-few whole)
 
 -- ---- where they lie
 

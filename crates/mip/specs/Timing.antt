@@ -1,10 +1,10 @@
 -- Site timing (01, "MIP and site timing"): when a mega-frame is emitted, and how long a site holds it back.
-use Prim.Native.Nat.{ℕ, suc, _+_, _-_, _%_, _^_}
-use mathlib.Core.Bool.{Bool, not}
+use Prim.Native.Nat.{ℕ, suc, _+_, _-_, _%_}
+use mathlib.Core.Bool.{Bool}
 use mathlib.Core.List.{List, [], _∷_}
-use lib.Dec.{leb, ltb}
+use lib.Dec.{leb}
 use lib.IntN.{ℤ, pos, negsuc, _+ℤ_, _-ℤ_}
-use lib.Signed.{mag}
+use Rattle.fields.specs.Signed.{beyondSigned}
 use Rattle.refusals.specs.Checks.{Check, _when_}
 use Rattle.refusals.specs.Answers.{answer}
 use Rattle.mip.specs.Layout.{second}
@@ -14,10 +14,6 @@ use Rattle.mip.specs.declared.Time.{Time}
 unfoldable pub modulo : ℤ → ℕ → ℕ
 modulo (pos n) m = n % m
 modulo (negsuc k) m = m - suc (k % m)
-
--- beyond signed 16 bits (`mag z` is n for n, and for the number one less than the negative of n)
-abbrev pub offsetOver : ℤ → Bool
-offsetOver z = not (ltb (mag z) (2 ^ 15))
 
 abbrev pub over : ℕ → Bool
 over steps = leb second steps
@@ -32,14 +28,14 @@ held stamp delay offset reception = modulo (pos (emitted stamp delay offset) -�
 
 unfoldable pub emissionChecks : ℕ → ℕ → ℤ → List Check
 emissionChecks stamp delay offset =
-    38 when offsetOver offset
+    38 when beyondSigned 16 offset
     ∷ 33 when over stamp
     ∷ 34 when over delay
     ∷ []
 
 unfoldable pub extraChecks : ℕ → ℕ → ℤ → ℕ → List Check
 extraChecks stamp delay offset reception =
-    38 when offsetOver offset
+    38 when beyondSigned 16 offset
     ∷ 33 when over stamp
     ∷ 34 when over delay
     ∷ 37 when over reception

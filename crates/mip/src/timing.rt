@@ -5,17 +5,7 @@ use super::Time;
 ghost use mathlib.Core.Path.{_≡_};
 ghost use Rattle.refusals.specs.Checks.{first};
 ghost use Rattle.mip.specs.Layout.{second};
-ghost use Rattle.mip.specs.Timing.{modulo, offsetOver, emissionChecks, emissionOf, extraOf};
-
-// Whether a time offset lies beyond signed 16 bits.
-fn offset_over(offset: i32) -> bool
-    ensures { λ r. ⌜ r ≡ offsetOver offset ⌝ }
-{
-    if offset < -32768 {
-        return true;
-    }
-    32767 < offset
-}
+ghost use Rattle.mip.specs.Timing.{modulo, emissionChecks, emissionOf, extraOf};
 
 // A sum of steps less whole seconds. The remainder of a negative sum is negative or 0: a second puts it right.
 fn modulo_second(sum: i64) -> u32
@@ -33,7 +23,7 @@ fn modulo_second(sum: i64) -> u32
 fn emission_refusal(stamp: Steps, delay: Steps, offset: i32) -> u32
     ensures { λ r. ⌜ r ≡ first (emissionChecks (stamp .0) (delay .0) offset) ⌝ }
 {
-    if offset_over(offset) {
+    if fields::outside(0x8000, offset) {
         return refusals::TOO_WIDE_OR_UNFIT_STATE;
     }
     if SECOND <= stamp.0 {

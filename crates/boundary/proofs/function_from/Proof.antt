@@ -25,7 +25,9 @@ returns c = rw (eq-eqb _ _ (c .if1 .taken))
 
 returns-2 : tie.Need-returns-2
 unfolding madeOf
-returns-2 c = rw (ne-eqb _ _ (c .before .if1 .left), ne-eqb _ _ (c .if2 .taken))
+returns-2 c =
+    let a = c .before .before .args in
+    rw (ne-eqb _ _ (c .before .if1 .left), ne-eqb (a .tag) (a .kind) (c .if2 .taken))
 
 returns-3 : tie.Need-returns-3
 unfolding madeOf

@@ -1,20 +1,17 @@
 -- `boundary::offset` meets its contract: a number that is not beyond 16 bits goes into 16 bits.
 -- Assumes nothing.
 use borrow.Author.Needs.{needs}
-use borrow.Author.Tests.{ltb-true}
-use lib.Dec.{ltb}
+use borrow.Author.Tests.{leb-false}
 use lib.IntN.{ℤ}
 use lib.Signed.{mag}
 use mir.Syntax.{w16, w32}
 use mir.Val.{SFits, toZ, ofZ}
 use mir.ValLaws.{toZ-ofZ}
 use mathlib.Core.Path.{_≡_, sym, ap, _∙_, subst}
-use mathlib.Core.Bool.{Bool, true, false, not, cond}
-use Rattle.fields.proofs.Cases.{cases, true≢false}
-use Rattle.functions.specs.Write.{beyondSigned}
+use mathlib.Core.Bool.{Bool, false, cond}
+use Rattle.fields.specs.Signed.{beyondSigned}
 use Rattle.functions.specs.declared.Function.the-variants.{TimeOffset}
 use Rattle.boundary.specs.Making.{offsetMade}
-use Rattle.boundary.specs.declared.Made.{Made}
 use Rattle.boundary.specs.declared.Made.the-variants.{Unfit, Fit}
 use Rattle.boundary.proofs.offset.Statement.{statement}
 use Rattle.boundary.proofs.offset.Tie as tie
@@ -27,30 +24,27 @@ test c = ap (beyondSigned 16) (same c)
 
 -- what is not beyond is within
 within : (z : ℤ) → beyondSigned 16 z ≡ false → SFits w16 z
-within z t =
-    cases (ltb (mag z) 32768)
-    (λ s. record { sfits = ltb-true (mag z) 32768 s })
-    (λ s. absurd (true≢false (sym (ap not s) ∙ t)))
+within z t = record { sfits = leb-false 32768 (mag z) t }
 
-beyond-16-requires : tie.Need-beyond-16-requires
-beyond-16-requires c κs = search needs
+outside-requires : tie.Need-outside-requires
+outside-requires c κs = search needs
 
 returns : tie.Need-returns
 unfolding offsetMade
-returns c = rw (sym (test (c .before .before)) ∙ sym (c .before .beyond-16 .ensures) ∙ c .if1 .taken)
+returns c = rw (sym (test (c .before .before)) ∙ sym (c .before .outside .ensures) ∙ c .if1 .taken)
 
 cast-t3 : tie.Need-cast-t3
 cast-t3 c =
     subst (SFits w16) (sym (same (c .before .before)))
-    (within (c .before .before .args .value) (sym (test (c .before .before)) ∙ sym (c .before .beyond-16 .ensures) ∙ c .if1 .left))
+    (within (c .before .before .args .value) (sym (test (c .before .before)) ∙ sym (c .before .outside .ensures) ∙ c .if1 .left))
 
 returns-2 : tie.Need-returns-2
 unfolding offsetMade
 returns-2 c =
-    let t = sym (test (c .before .before)) ∙ sym (c .before .beyond-16 .ensures) ∙ c .if1 .left in
+    let t = sym (test (c .before .before)) ∙ sym (c .before .outside .ensures) ∙ c .if1 .left in
     ap (λ (z : ℤ). Fit (TimeOffset (toZ w16 (ofZ w16 z)))) (same (c .before .before))
     ∙ ap (λ (z : ℤ). Fit (TimeOffset z)) (toZ-ofZ w16 (c .before .before .args .value) (within (c .before .before .args .value) t))
     ∙ sym (ap (λ (b : Bool). cond b Unfit (Fit (TimeOffset (c .before .before .args .value)))) t)
 
 pub offset-spec : {M : Type 1} → statement M
-offset-spec = tie.close (tie.spec beyond-16-requires returns cast-t3 returns-2)
+offset-spec = tie.close (tie.spec outside-requires returns cast-t3 returns-2)

@@ -10,7 +10,7 @@ use Rattle.boundary.proofs.waiting.Tie as tie
 
 returns : tie.Need-returns
 unfolding waitingMade
-returns c = rw (lt-ltb _ _ (c .if1 .taken))
+returns c = rw (lt-ltb 1 (c .before .args .wait) (c .if1 .taken))
 
 returns-2 : tie.Need-returns-2
 unfolding waitingMade

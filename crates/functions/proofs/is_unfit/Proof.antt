@@ -2,15 +2,15 @@
 -- hold them.
 -- Assumes nothing.
 use borrow.Author.Needs.{needs}
-use borrow.Author.Tests.{lt-ltb}
-use mathlib.Core.Path.{sym, ap, _∙_}
-use mathlib.Core.Bool.{not}
+use borrow.Author.Tests.{lt-ltb, lt-leb}
+use mathlib.Core.Path.{_≡_, sym, ap, _∙_}
 use mir.Syntax.{w16, w32}
-use mir.Val.{SFits}
+use mir.Val.{SFits, toZ, ofZ}
 use mir.ValLaws.{toZ-ofZ}
 use Rattle.fields.specs.Formats.{tooWide}
+use Rattle.fields.specs.Signed.{beyondSigned}
 use Rattle.functions.proofs.KindLaws.{cell-wide, bandwidth-wide}
-use Rattle.functions.specs.Write.{beyondSigned, unfit}
+use Rattle.functions.specs.Write.{unfit}
 use Rattle.functions.proofs.is_unfit.Statement.{statement}
 use Rattle.functions.proofs.is_unfit.Tie as tie
 
@@ -20,8 +20,8 @@ enum-known-f c = search needs
 enum-known-f-2 : tie.Need-enum-known-f-2
 enum-known-f-2 c = search needs
 
-beyond-24-requires : tie.Need-beyond-24-requires
-beyond-24-requires c κs = search needs
+outside-requires : tie.Need-outside-requires
+outside-requires c κs = search needs
 
 enum-known-f-3 : tie.Need-enum-known-f-3
 enum-known-f-3 c = search needs
@@ -45,13 +45,14 @@ returns : tie.Need-returns
 unfolding unfit
 returns c =
     let h : SFits w16 (c .before .f .given .0 .0) = search needs in
-    sym (ap unfit (c .before .f .given .1) ∙ ap not (lt-ltb _ _ (h .sfits)))
+    sym (ap unfit (c .before .f .given .1) ∙ lt-leb _ _ (h .sfits))
 
 returns-2 : tie.Need-returns-2
 unfolding unfit
 returns-2 c =
     let h : SFits w32 (c .before .before .f2 .given .0 .0) = search needs in
-    c .beyond-24 .ensures ∙ ap (beyondSigned 24) (toZ-ofZ w32 _ h) ∙ sym (ap unfit (c .before .before .f2 .given .1))
+    let e : c .outside .result ≡ beyondSigned 24 (toZ w32 (ofZ w32 (c .before .before .f2 .given .0 .0))) = c .outside .ensures in
+    e ∙ ap (beyondSigned 24) (toZ-ofZ w32 _ h) ∙ sym (ap unfit (c .before .before .f2 .given .1))
 
 returns-3 : tie.Need-returns-3
 unfolding unfit tooWide
@@ -87,7 +88,7 @@ is-unfit-spec =
     (tie.spec
     enum-known-f
     enum-known-f-2
-    beyond-24-requires
+    outside-requires
     enum-known-f-3
     enum-told
     enum-known-f-4

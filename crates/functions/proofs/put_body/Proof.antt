@@ -16,7 +16,7 @@ use Rattle.fields.specs.Parts.{overlay, storedAt, copiedTo}
 use Rattle.fields.specs.Signed.{unsigned, InSigned}
 use Rattle.fields.proofs.NumberLaws.{length-bytes}
 use Rattle.fields.proofs.PartLaws.{part-whole, stored-at, copied-to}
-use Rattle.functions.proofs.BodyLaws.{in-signed}
+use Rattle.fields.proofs.SignedLaws.{in-signed}
 use Rattle.functions.proofs.KindLaws.{carried-is, arm-carries}
 use Rattle.functions.specs.Function.{carries, bodyOf}
 use Rattle.functions.specs.Write.{unfit, Writable}

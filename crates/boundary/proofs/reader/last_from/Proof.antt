@@ -2,6 +2,9 @@
 -- Assumes nothing.
 use borrow.Author.Needs.{needs}
 use borrow.Author.Tests.{eq-eqb, ne-eqb}
+use mathlib.Core.Path.{sym, ap}
+use mathlib.Core.Bool.{Bool, cond}
+use Rattle.gather.specs.declared.Last.the-variants.{Nothing, Count}
 use Rattle.boundary.specs.Reader.{lastFrom}
 use Rattle.boundary.proofs.reader.last_from.Statement.{statement}
 use Rattle.boundary.proofs.reader.last_from.Tie as tie
@@ -12,7 +15,9 @@ returns c = rw (eq-eqb _ _ (c .if1 .taken))
 
 returns-2 : tie.Need-returns-2
 unfolding lastFrom
-returns-2 c = rw (ne-eqb _ _ (c .if1 .left))
+returns-2 c =
+    let n = c .before .args .last in
+    sym (ap (λ (b : Bool). cond b Nothing (Count n)) (ne-eqb n 255 (c .if1 .left)))
 
 pub last-from-spec : {M : Type 1} → statement M
 last-from-spec = tie.close (tie.spec returns returns-2)

@@ -18,7 +18,9 @@ emission-requires c κs = search needs
 
 returns : tie.Need-returns
 returns c =
-    ap timeOf (c .emission .ensures ∙ ap (emissionOf (c .before .args .stamp) (c .before .args .delay)) (same (c .before)))
+    let a = c .before .args in
+    let e : c .emission .result ≡ emissionOf (a .stamp) (a .delay) (toZ w32 (ofZ w32 (a .offset))) = c .emission .ensures in
+    ap timeOf (e ∙ ap (emissionOf (a .stamp) (a .delay)) (same (c .before)))
 
 pub sfn-emission-spec : {M : Type 1} → statement M
 sfn-emission-spec = tie.close (tie.spec emission-requires returns)

@@ -20,7 +20,8 @@ extra-delay-requires c κs = search needs
 returns : tie.Need-returns
 returns c =
     let a = c .before .args in
-    ap timeOf (c .extra-delay .ensures ∙ ap (λ (z : ℤ). extraOf (a .stamp) (a .delay) z (a .reception)) (same (c .before)))
+    let e : c .extra-delay .result ≡ extraOf (a .stamp) (a .delay) (toZ w32 (ofZ w32 (a .offset))) (a .reception) = c .extra-delay .ensures in
+    ap timeOf (e ∙ ap (λ (z : ℤ). extraOf (a .stamp) (a .delay) z (a .reception)) (same (c .before)))
 
 pub sfn-extra-delay-spec : {M : Type 1} → statement M
 sfn-extra-delay-spec = tie.close (tie.spec extra-delay-requires returns)

@@ -1,8 +1,12 @@
 -- `boundary::site::sfn_mip_read` meets its contract: the answer of `mip::read`, laid out flat.
 -- Assumes nothing.
 use borrow.Author.Needs.{needs}
+use denote.Ref.{now}
+use native.Mathlib.Omega.{arith}
 use mathlib.Core.Path.{ap}
+use Rattle.mip.specs.declared.MipRead.{MipRead}
 use Rattle.boundary.specs.Site.{mipFlat}
+use Rattle.boundary.proofs.CountLaws.{mip-few}
 use Rattle.boundary.proofs.site.sfn_mip_read.Statement.{statement}
 use Rattle.boundary.proofs.site.sfn_mip_read.Tie as tie
 
@@ -10,7 +14,8 @@ read-requires : tie.Need-read-requires
 read-requires c κs = search needs
 
 count-32-requires : tie.Need-count-32-requires
-count-32-requires c κs = search needs
+count-32-requires c κs =
+    omega (arith, ap (λ (r : MipRead). r .addressing) (c .before .read .ensures), mip-few (now (c .before .before .before .args .packet)))
 
 bit-requires : tie.Need-bit-requires
 bit-requires c κs = search needs

@@ -6,7 +6,7 @@ use Rattle.boundary.proofs.site.sfn_mip_write.Statement.{statement}
 use Rattle.boundary.proofs.site.sfn_mip_write.Tie as tie
 
 returns : tie.Need-returns
-returns c = rw (lt-ltb _ _ (c .before .if1 .taken), lt-ltb _ _ (c .if2 .taken))
+returns c = rw (lt-ltb 1 (c .before .before .before .before .args .periodic) (c .before .if1 .taken), lt-ltb _ _ (c .if2 .taken))
 
 returns-2 : tie.Need-returns-2
 returns-2 c = rw (lt-ltb _ _ (c .before .if1 .taken), le-ltb _ _ (c .if2 .left))

@@ -5,9 +5,10 @@ use borrow.Author.Tests.{le-leb, lt-leb}
 use mathlib.Core.Path.{_≡_, sym, ap, _∙_}
 use mathlib.Core.List.{List}
 use mir.Facts.{toZ-ofZ}
+use Rattle.fields.specs.Signed.{beyondSigned}
 use Rattle.refusals.specs.Checks.{Check}
 use Rattle.refusals.proofs.CheckLaws.{Clear, first-at, first-none}
-use Rattle.mip.specs.Timing.{offsetOver, emissionChecks}
+use Rattle.mip.specs.Timing.{emissionChecks}
 use Rattle.mip.proofs.timing.emission_refusal.Statement.{statement}
 use Rattle.mip.proofs.timing.emission_refusal.Tie as tie
 
@@ -15,8 +16,8 @@ abbrev checks : tie.Start → List Check
 checks c = emissionChecks (c .args .stamp .0) (c .args .delay .0) (c .args .offset)
 
 -- a signed argument is passed on as its bits
-offset-judged : (c : tie.After-offset-over) → c .offset-over .result ≡ offsetOver (c .before .args .offset)
-offset-judged c = c .offset-over .ensures ∙ ap offsetOver (toZ-ofZ (c .before .fits .offset))
+offset-judged : (c : tie.After-outside) → c .outside .result ≡ beyondSigned 16 (c .before .args .offset)
+offset-judged c = c .outside .ensures ∙ ap (beyondSigned 16) (toZ-ofZ (c .before .fits .offset))
 
 past1 : (c : tie.Else1) → Clear 1 (checks (c .before .before))
 unfolding emissionChecks
@@ -30,8 +31,8 @@ past3 : (c : tie.Else3) → Clear 3 (checks (c .before .before .before .before .
 unfolding emissionChecks
 past3 c = (past2 (c .before .before), lt-leb _ _ (c .if3 .left))
 
-offset-over-requires : tie.Need-offset-over-requires
-offset-over-requires c κs = search needs
+outside-requires : tie.Need-outside-requires
+outside-requires c κs = search needs
 
 returns : tie.Need-returns
 unfolding emissionChecks
@@ -52,4 +53,4 @@ returns-4 c = first-none (checks (c .before .before .before .before .before .bef
 
 pub emission-refusal-spec : {M : Type 1} → statement M
 emission-refusal-spec =
-    tie.close (tie.spec offset-over-requires returns returns-2 returns-3 returns-4)
+    tie.close (tie.spec outside-requires returns returns-2 returns-3 returns-4)

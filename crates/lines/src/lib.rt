@@ -1,0 +1,266 @@
+// The text of a listing (01, "Listing program"): numbers and lines laid behind each other in a lent buffer, and one step of a
+// listing, which takes a transport packet and adds the lines of the T2-MI packets that it finishes. Where a text has no room
+// nothing of it is laid.
+use gather::Gathered;
+use gather::Reader;
+use packet::Header;
+use packet::Packet;
+ghost use mathlib.Core.Path.{_≡_};
+ghost use Prim.Native.Nat.{_+_, _*_, _≤_};
+ghost use lib.ListN.{length};
+ghost use Rattle.fields.specs.Parts.{overlay};
+ghost use Rattle.packet.specs.Cut.{cut};
+ghost use Rattle.lines.specs.Digits.{digits};
+ghost use Rattle.lines.specs.Lines.{word, headLine, fieldsLine, refusedLine, lineBy, linesOf, lastLine, laid, appended};
+ghost use Rattle.lines.specs.Listing.{startListing, capped, bit, afterOf, roomy, stepOf};
+
+// A listing under way: the reader, the packets that it handed out so far, and its loss marks.
+pub struct Listing {
+    pub reader: Reader,
+    pub packets: u64,
+    pub gaps: u64,
+}
+
+// What a step gives: the next state, and how much of the lines is filled. Where they may have too little room it is full, and
+// all is as it was.
+pub struct Step {
+    pub full: bool,
+    pub listing: Listing,
+    pub filled: usize,
+}
+
+// How many decimal digits a number has.
+fn digit_count(n: u64) -> usize
+    ensures { λ r. ⌜ r ≡ length (digits n) ⌝ }
+{
+    let mut k: usize = 1;
+    let mut rest = n / 10;
+    while 0 < rest {
+        rest = rest / 10;
+        k += 1;
+    }
+    k
+}
+
+// Lays the k digits of n at at, the last one first.
+fn lay_digits(lines: &mut [u8], at: usize, k: usize, n: u64)
+    requires { ⌜ (k ≡ length (digits n)) × (at + k ≤ length (now lines)) ⌝ }
+    ensures { λ _. ⌜ now (lines .exit) ≡ overlay at (digits n) (now (lines .entry)) ⌝ }
+{
+    let mut rest = n;
+    let mut i = k;
+    while 0 < i {
+        i -= 1;
+        lines[at + i] = 48 + (rest % 10) as u8;
+        rest = rest / 10;
+    }
+}
+
+// Appends a number in decimal; gives the place behind it.
+pub fn number(lines: &mut [u8], at: usize, n: u64) -> usize
+    ensures { λ r. ⌜ record { at = r; lines = now (lines .exit) } ≡ appended (digits n) at (now (lines .entry)) ⌝ }
+{
+    let k = digit_count(n);
+    if !fields::within(at, k, lines.len()) {
+        return at;
+    }
+    lay_digits(lines, at, k, n);
+    at + k
+}
+
+// Appends a text.
+fn append(lines: &mut [u8], at: usize, text: &[u8]) -> usize
+    ensures { λ r. ⌜ record { at = r; lines = now (lines .exit) } ≡ appended (now (text .entry)) at (now (lines .entry)) ⌝ }
+{
+    let n = text.len();
+    if !fields::within(at, n, lines.len()) {
+        return at;
+    }
+    fields::copy(lines, at, n, text, 0);
+    at + n
+}
+
+// Lays a number, which has at most 20 digits, and the byte behind it.
+fn lay_word(lines: &mut [u8], at: usize, n: u64, end: u8) -> usize
+    requires { ⌜ at + 21 ≤ length (now lines) ⌝ }
+    ensures { λ r. ⌜ (record { at = r; lines = now (lines .exit) } ≡ laid (word n end) at (now (lines .entry))) × (r ≤ at + 21) ⌝ }
+{
+    let k = number(lines, at, n);
+    lines[k] = end;
+    k + 1
+}
+
+// Lays the line of a header's fields at the front.
+fn lay_fields(line: &mut [u8], h: Header) -> usize
+    requires { ⌜ 105 ≤ length (now line) ⌝ }
+    ensures { λ r. ⌜ record { at = r; lines = now (line .exit) } ≡ laid (fieldsLine h) 0 (now (line .entry)) ⌝ }
+{
+    let a = lay_word(line, 0, h.kind as u64, b' ');
+    let b = lay_word(line, a, h.count as u64, b' ');
+    let c = lay_word(line, b, h.frame as u64, b' ');
+    let d = lay_word(line, c, h.stream as u64, b' ');
+    lay_word(line, d, h.bits as u64, b'\n')
+}
+
+// Lays the line of a refusal at the front.
+fn lay_refused(line: &mut [u8], refusal: u32) -> usize
+    requires { ⌜ 105 ≤ length (now line) ⌝ }
+    ensures { λ r. ⌜ record { at = r; lines = now (line .exit) } ≡ laid (refusedLine refusal) 0 (now (line .entry)) ⌝ }
+{
+    let a = append(line, 0, b"refused ");
+    lay_word(line, a, refusal as u64, b'\n')
+}
+
+// Appends the line of what reading a packet gave. The line is made aside, so that all of it is laid or nothing.
+pub fn line(lines: &mut [u8], at: usize, p: Packet) -> usize
+    ensures { λ r. ⌜ record { at = r; lines = now (lines .exit) } ≡ appended (lineBy p) at (now (lines .entry)) ⌝ }
+{
+    let mut aside = [0u8; 105];
+    if p.refusal != 0 {
+        let n = lay_refused(&mut aside, p.refusal);
+        return append(lines, at, &aside[..n]);
+    }
+    let h = p.header;
+    let n = lay_fields(&mut aside, h);
+    append(lines, at, &aside[..n])
+}
+
+// Appends the header.
+pub fn head_line(lines: &mut [u8], at: usize) -> usize
+    ensures { λ r. ⌜ record { at = r; lines = now (lines .exit) } ≡ appended headLine at (now (lines .entry)) ⌝ }
+{
+    append(lines, at, b"type count frame stream bits\n")
+}
+
+// Lays the line of the totals at the front.
+fn lay_last(line: &mut [u8], packets: u64, gaps: u64) -> usize
+    requires { ⌜ 55 ≤ length (now line) ⌝ }
+    ensures { λ r. ⌜ record { at = r; lines = now (line .exit) } ≡ laid (lastLine packets gaps) 0 (now (line .entry)) ⌝ }
+{
+    let a = append(line, 0, b"packets ");
+    let b = lay_word(line, a, packets, b' ');
+    let c = append(line, b, b"gaps ");
+    lay_word(line, c, gaps, b'\n')
+}
+
+// Lays the lines of the packets of s, which stand back to back, up to the first that is not whole. Their CRC is judged by
+// reading them: 14 is no line, as packets with a wrong CRC are none of the cut.
+fn lay_lines(lines: &mut [u8], at: usize, s: &[u8]) -> usize
+    requires { ⌜ at + 2 * length (now s) ≤ length (now lines) ⌝ }
+    ensures { λ r. ⌜ record { at = r; lines = now (lines .exit) } ≡ laid (linesOf (cut (now (s .entry)) .packets)) at (now (lines .entry)) ⌝ }
+{
+    let mut w = at;
+    let mut i = 0;
+    loop {
+        let size = packet::own_length(s, i);
+        if !fields::within(i, size, s.len()) {
+            return w;
+        }
+        let end = i + size;
+        let p = packet::read(&s[i..end]);
+        if p.refusal == refusals::CRC_WRONG {
+            return w;
+        }
+        w = line(lines, w, p);
+        i = end;
+    }
+}
+
+// Whether the lines of any call have room: a line is at most 19 bytes, and its packet at least 10.
+fn has_room(filled: usize, space: usize, room: usize) -> bool
+    ensures { λ r. ⌜ r ≡ roomy filled space room ⌝ }
+{
+    if !fields::within(filled, space, room) {
+        return false;
+    }
+    fields::within(filled + space, space, room)
+}
+
+// A total with more added; it stops at the largest number.
+fn counted(total: u64, more: u64) -> u64
+    ensures { λ r. ⌜ r ≡ capped (total + more) ⌝ }
+{
+    if u64::MAX - total < more {
+        return u64::MAX;
+    }
+    total + more
+}
+
+// A mark as a number.
+fn mark(set: bool) -> u64
+    ensures { λ r. ⌜ r ≡ bit set ⌝ }
+{
+    if set {
+        return 1;
+    }
+    0
+}
+
+impl Listing {
+    // A listing that has seen nothing: the reader of PID 0x1000.
+    pub fn start() -> Listing
+        ensures { λ r. ⌜ r ≡ startListing ⌝ }
+    {
+        let started = Reader::start(0x1000);
+        let reader = started.reader;
+        Listing {
+            reader,
+            packets: 0,
+            gaps: 0,
+        }
+    }
+
+    // The state after a call of the reader.
+    fn after(self, call: Gathered) -> Listing
+        ensures { λ r. ⌜ r ≡ afterOf self call ⌝ }
+    {
+        let reader = call.reader;
+        let packets = counted(self.packets, call.packets as u64);
+        let gaps = counted(self.gaps, mark(call.loss));
+        Listing {
+            reader,
+            packets,
+            gaps,
+        }
+    }
+
+    // Takes one transport packet, and appends the lines of what it finishes. gathering and output are the reader's; lines
+    // holds the text so far in its first filled bytes.
+    pub fn step(
+        self,
+        transport: &[u8],
+        gathering: &mut [u8],
+        output: &mut [u8],
+        lines: &mut [u8],
+        filled: usize,
+    ) -> Step
+        ensures { λ r. ⌜ record { answer = r; gathering = now (gathering .exit); output = now (output .exit); lines = now (lines .exit) } ≡ stepOf self (now (transport .entry)) (now (gathering .entry)) (now (output .entry)) (now (lines .entry)) filled ⌝ }
+    {
+        if !has_room(filled, output.len(), lines.len()) {
+            return Step {
+                full: true,
+                listing: self,
+                filled,
+            };
+        }
+        let reader = self.reader;
+        let call = reader.gather(transport, gathering, output);
+        let bytes = call.bytes;
+        let filled = lay_lines(lines, filled, &output[..bytes]);
+        let listing = self.after(call);
+        Step {
+            full: false,
+            listing,
+            filled,
+        }
+    }
+
+    // Appends the line of the totals.
+    pub fn last_line(self, lines: &mut [u8], at: usize) -> usize
+        ensures { λ r. ⌜ record { at = r; lines = now (lines .exit) } ≡ appended (lastLine (self .packets) (self .gaps)) at (now (lines .entry)) ⌝ }
+    {
+        let mut aside = [0u8; 64];
+        let n = lay_last(&mut aside, self.packets, self.gaps);
+        append(lines, at, &aside[..n])
+    }
+}
