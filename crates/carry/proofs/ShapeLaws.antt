@@ -1,19 +1,20 @@
 -- What a batch's transport packets are goes by the lengths of its packets alone; and the bench rows of 01 hold.
 -- Assumes nothing.
 use mathlib.Core.Path.{_≡_, refl, sym, ap, ap₂, _∙_}
-use mathlib.Core.Bool.{Bool, true, false, cond, _&&_}
+use mathlib.Core.Bool.{Bool, true, false, cond, _&&_, and-false}
 use mathlib.Core.List.{List, [], _∷_, _++_, map}
-use Prim.Native.Nat.{ℕ, zero, suc, _+_, _-_, _≤_, _<_, min}
+use Prim.Native.Nat.{ℕ, zero, suc, _+_, _-_, _*_, _/_, _≤_, _<_, min}
 use native.Mathlib.Omega.{arith}
 use lib.Dec.{leb, eqb}
 use lib.ListN.{length, take, drop, length-append, length-take, length-drop, length-map}
 use lib.Seq.{length-take-le}
-use borrow.Author.Tests.{leb-true, leb-false, eqb-true, eqb-false}
+use borrow.Author.Tests.{leb-true, leb-false, eqb-true, eqb-false, eq-eqb}
 use Rattle.fields.proofs.Cases.{cases, and-left}
 use Rattle.packet.specs.Cut.{joined}
 use Rattle.packet.proofs.CutLaws.{AllWhole}
 use Rattle.transport.specs.Load.{Load, plain, start}
 use Rattle.carry.specs.Loads.{Gone, goneOf, follows, loadsBy, loadsOf}
+use Rattle.carry.proofs.LoadLaws.{whole-long}
 use Rattle.carry.specs.Rows.{Shape, carries, begins, shapeOf, roomOf, sum, Rest, restOf, shapesBy, shapes, Row, rows, Holds, AllHold}
 
 pub length-joined : (ps : List (List ℕ)) → length (joined ps) ≡ sum (map length ps)
@@ -80,6 +81,68 @@ shapes-of ps = shapes-by (length (joined ps)) [] ps ∙ ap (λ (k : ℕ). shapes
 -- how many transport packets a batch needs
 pub needs : (ps : List (List ℕ)) → length (loadsOf ps) ≡ length (shapes (map length ps))
 needs ps = sym (length-map (loadsOf ps) shapeOf) ∙ ap length (shapes-of ps)
+
+-- ---- how many at the most: each but the last carries 183 bytes at least
+
+-- none of these lengths is 0
+abbrev pub Some : List ℕ → Type 0
+Some [] = Unit
+Some (n ∷ ns) = (0 < n) × Some ns
+
+rest-some : (n : ℕ) (ns : List ℕ) → Some ns → Some (restOf n ns .next)
+unfolding restOf
+rest-some n [] p = tt
+rest-some n (m ∷ ms) p =
+    cases (leb m n) (λ t. rw t (rest-some (n - m) ms (p .1))) (λ t. cases (eqb n 0) (λ z. rw (t, z) p) (λ z. rw (t, z) (p .1)))
+
+rest-sum : (n : ℕ) (ns : List ℕ) → restOf n ns .left + sum (restOf n ns .next) ≡ sum ns - n
+unfolding restOf
+rest-sum n [] = omega arith
+rest-sum n (m ∷ ms) =
+    cases (leb m n)
+    (λ t. rw t (rest-sum (n - m) ms ∙ omega (arith, leb-true m n t)))
+    (λ t.
+    cases (eqb n 0)
+    (λ z. rw (t, z) (omega (arith, eqb-true n 0 z)))
+    (λ z. rw (t, z) (omega (arith, leb-false m n t))))
+
+-- a start takes 183 bytes, or all that are left
+started : (r total left more : ℕ) → r ≤ 182 → 0 < total → left ≡ total - (183 - r) → 183 * more ≤ left + 182 → 183 * suc more ≤ r + total + 182
+started r total left more a b e h = omega arith
+
+few-by : (k r : ℕ) (ns : List ℕ) → Some ns → 183 * length (shapesBy k r ns) ≤ r + sum ns + 182
+unfolding shapesBy
+few-by zero r ns p = omega arith
+few-by (suc k) r [] p =
+    cases (leb 184 r)
+    (λ u. rw u (omega (arith, few-by k (r - 184) [] tt, leb-true 184 r u)))
+    (λ u. rw (u, and-false (eqb r 183))
+    (cases (eqb r 0)
+    (λ z. rw z (omega arith))
+    (λ z. rw z (omega (arith, few-by k 0 [] tt, eqb-false r 0 z)))))
+few-by (suc k) r (m ∷ ms) p =
+    cases (leb r 182)
+    (λ t.
+    let rest : Rest = restOf (183 - r) (m ∷ ms) in
+    rw t
+    (started r (m + sum ms) (rest .left + sum (rest .next)) (length (shapesBy k (rest .left) (rest .next))) (leb-true r 182 t) (omega (arith, p .0)) (rest-sum (183 - r) (m ∷ ms))
+    (few-by k (rest .left) (rest .next) (rest-some (183 - r) (m ∷ ms) p))))
+    (λ t.
+    cases (leb 184 r)
+    (λ u. rw (t, u) (omega (arith, few-by k (r - 184) (m ∷ ms) p, leb-true 184 r u)))
+    (λ u.
+    let e : r ≡ 183 = omega (arith, leb-false r 182 t, leb-false 184 r u) in
+    rw (t, u, eq-eqb r 183 e) (omega (arith, few-by k (r - 183) (m ∷ ms) p))))
+
+some-lengths : (ps : List (List ℕ)) → AllWhole ps → Some (map length ps)
+some-lengths [] w = tt
+some-lengths (p ∷ ps) w = (omega (arith, whole-long p (w .0)), some-lengths ps (w .1))
+
+-- room for one transport packet for each 183 bytes, and one more, is always enough
+pub needs-few : (ps : List (List ℕ)) → AllWhole ps → length (loadsOf ps) ≤ length (joined ps) / 183 + 1
+needs-few ps w =
+    let f : 183 * length (shapes (map length ps)) ≤ 0 + sum (map length ps) + 182 = unfold shapes in few-by (sum (map length ps)) 0 (map length ps) (some-lengths ps w) in
+    omega (arith, needs ps, length-joined ps)
 
 -- ---- the bench rows
 
