@@ -11,11 +11,11 @@ use borrow.Author.Tests.{leb-true, leb-false, ltb-false}
 use Rattle.crc.specs.Crc.{crcHolds}
 use Rattle.fields.proofs.Cases.{cases}
 use Rattle.packet.specs.Layout.{sizeOf}
-use Rattle.packet.specs.Cut.{Cut, cut, joined, judgeOf}
+use Rattle.packet.specs.Cut.{AllWhole, Cut, cut, joined, judgeOf}
 use Rattle.packet.specs.declared.Judged.{Judged}
 use Rattle.packet.specs.declared.Judged.the-variants.{Short, Bad, Good}
 use Rattle.packet.proofs.LayoutLaws.{size-least}
-use Rattle.packet.proofs.CutLaws.{cut-nil, cut-short, cut-bad, cut-good, judged-short, judged-bad, judged-good, AllWhole, Cuts, cut-cuts}
+use Rattle.packet.proofs.CutLaws.{cut-nil, cut-short, cut-bad, cut-good, judged-short, judged-bad, judged-good, Cuts, cut-cuts}
 use Rattle.carry.specs.Loads.{follows}
 use Rattle.refusals.specs.Checks.{first}
 use Rattle.refusals.proofs.FoundLaws.{stands, found, none-found, not-found}

@@ -12,8 +12,8 @@ use lib.Seq.{take-all, length-take-le, drop-drop, take-append-le, drop-append-le
 use borrow.Author.Tests.{le-leb, lt-leb, lt-ltb, le-ltb, leb-true, leb-false, ltb-true, ltb-false, eq-eqb, ne-eqb, eqb-true, eqb-false}
 use Rattle.fields.proofs.Cases.{cases, true≢false}
 use Rattle.packet.specs.Layout.{sizeOf}
-use Rattle.packet.specs.Cut.{Whole, joined}
-use Rattle.packet.proofs.CutLaws.{AllWhole, joined-append}
+use Rattle.packet.specs.Cut.{Whole, AllWhole, joined}
+use Rattle.packet.proofs.CutLaws.{joined-append}
 use Rattle.packet.proofs.LayoutLaws.{size-least, size-append}
 use Rattle.transport.specs.Load.{Load, plain, start}
 use Rattle.transport.proofs.LoadLaws.{Sound, sound-plain, sound-start}

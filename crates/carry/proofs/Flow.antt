@@ -6,8 +6,7 @@ use mathlib.Core.List.{List, [], _∷_, _++_, append-assoc}
 use Prim.Native.Nat.{ℕ, _≤_, _<_}
 use native.Mathlib.Omega.{arith}
 use lib.ListN.{length, length-append}
-use Rattle.packet.specs.Cut.{Whole, joined}
-use Rattle.packet.proofs.CutLaws.{AllWhole}
+use Rattle.packet.specs.Cut.{Whole, AllWhole, joined}
 use Rattle.transport.specs.Load.{Load, plain, start}
 
 -- the packet under way: u of it went, r is left

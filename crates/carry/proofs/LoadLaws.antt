@@ -12,8 +12,8 @@ use lib.Seq.{take-all, take-nil, take-append-add, take-append-le, length-take-le
 use borrow.Author.Tests.{le-leb, lt-leb, leb-true, leb-false, eq-eqb, ne-eqb, eqb-true, eqb-false}
 use Rattle.fields.proofs.Cases.{cases, and-left}
 use Rattle.packet.specs.Layout.{sizeOf}
-use Rattle.packet.specs.Cut.{Whole, joined}
-use Rattle.packet.proofs.CutLaws.{AllWhole, joined-append}
+use Rattle.packet.specs.Cut.{Whole, AllWhole, joined}
+use Rattle.packet.proofs.CutLaws.{joined-append}
 use Rattle.packet.proofs.LayoutLaws.{size-least}
 use Rattle.transport.specs.Load.{Load, plain, start}
 use Rattle.carry.specs.Loads.{Gone, goneOf, follows, loadsBy, loadsOf}

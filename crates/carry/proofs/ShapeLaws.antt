@@ -10,8 +10,7 @@ use lib.ListN.{length, take, drop, length-append, length-take, length-drop, leng
 use lib.Seq.{length-take-le}
 use borrow.Author.Tests.{leb-true, leb-false, eqb-true, eqb-false, eq-eqb}
 use Rattle.fields.proofs.Cases.{cases, and-left}
-use Rattle.packet.specs.Cut.{joined}
-use Rattle.packet.proofs.CutLaws.{AllWhole}
+use Rattle.packet.specs.Cut.{AllWhole, joined}
 use Rattle.transport.specs.Load.{Load, plain, start}
 use Rattle.carry.specs.Loads.{Gone, goneOf, follows, loadsBy, loadsOf}
 use Rattle.carry.proofs.LoadLaws.{whole-long}

@@ -11,8 +11,8 @@ use lib.Dec.{eqb, ltb}
 use lib.ListN.{length, length-append}
 use borrow.Author.Tests.{ltb-false, not-false, eqb-true}
 use Rattle.fields.proofs.Cases.{cases, true≢false}
-use Rattle.packet.specs.Cut.{Whole, Cut, joined}
-use Rattle.packet.proofs.CutLaws.{AllWhole, cut-nil, joined-append}
+use Rattle.packet.specs.Cut.{Whole, AllWhole, Cut, joined}
+use Rattle.packet.proofs.CutLaws.{cut-nil, joined-append}
 use Rattle.transport.specs.Header.{syncOf, pidOf, countOf, carriedBy}
 use Rattle.transport.specs.Tests.{pidOutside}
 use Rattle.transport.specs.Load.{Load, plain, start, loadBytes, transportOf}

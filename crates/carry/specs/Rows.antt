@@ -6,7 +6,7 @@ use mathlib.Core.List.{List, [], _∷_, _++_, map}
 use Prim.Native.Nat.{ℕ, zero, suc, _+_, _-_, min}
 use lib.Dec.{leb, eqb}
 use lib.ListN.{length, replicate}
-use Rattle.packet.proofs.CutLaws.{AllWhole}
+use Rattle.packet.specs.Cut.{AllWhole}
 use Rattle.transport.specs.Load.{Load, plain, start}
 use Rattle.carry.specs.Loads.{follows, loadsOf}
 

@@ -21,7 +21,7 @@ use Rattle.crc.proofs.TopLaws.{zeros-zero}
 use Rattle.crc.proofs.RunLaws.{run-lt, run-append, run-top}
 
 -- four bytes are added to all 32 stages
-run-four : (r : ℕ) (t : List ℕ) → r < 2 ^ 32 → Bytes t → length t ≡ 4 → run r t ≡ zeros 32 (bitXor r (number t))
+pub run-four : (r : ℕ) (t : List ℕ) → r < 2 ^ 32 → Bytes t → length t ≡ 4 → run r t ≡ zeros 32 (bitXor r (number t))
 run-four r t hr ht e = rw (e, mul-one (number t)) at (run-top 0 r t (omega arith) hr ht)
 
 pub run-own : (r : ℕ) → r < 2 ^ 32 → run r (bytes 4 r) ≡ 0

@@ -5,7 +5,7 @@
 use mathlib.Core.Path.{_≡_, refl, sym, ap, ap₂, _∙_}
 use mathlib.Core.List.{List, [], _∷_, _++_}
 use Prim.Native.Nat.{ℕ, zero, suc, _+_, _*_, _/_, _%_, _^_, _≤_, _<_}
-use native.Mathlib.Nat.{add-zero, add-suc, suc-add, div-eq-of-lt, mul-one, lt-of-le-of-lt}
+use native.Mathlib.Nat.{add-zero, add-suc, suc-add, div-eq-of-lt, lt-of-le-of-lt}
 use native.Mathlib.Omega.{arith}
 use lib.ListN.{length, getD, take, drop, length-drop, take-append-drop}
 use lib.Seq.{drop-drop, getD-drop}
@@ -13,14 +13,15 @@ use lib.Pow.{shr-shr, shr-le}
 use lib.Bits.{bitXor, xor-lt, xor-shifted, xor-comm, xor-zero-r}
 use Rattle.fields.specs.Numbers.{Bytes, number}
 use Rattle.fields.specs.Parts.{part}
-use Rattle.fields.proofs.NumberLaws.{number-lt, number-cons, number-nil}
+use Rattle.fields.proofs.NumberLaws.{number-lt, four-bytes}
 use Rattle.fields.proofs.PartLaws.{length-part, part-bytes, part-none, part-add, part-cons}
 use Rattle.crc.specs.Crc.{feed, run}
 use Rattle.crc.specs.Tables.{zeros, Tables}
 use Rattle.crc.proofs.XorLaws.{xor-assoc}
 use Rattle.crc.proofs.FeedLaws.{feed-lt, feed-xor, zeros-add, zeros-none}
 use Rattle.crc.proofs.TopLaws.{feed-looked-up, zeros-low}
-use Rattle.crc.proofs.RunLaws.{run-append, run-top}
+use Rattle.crc.proofs.RunLaws.{run-append}
+use Rattle.crc.proofs.OwnLaws.{run-four}
 
 -- ---- the last digit of a register, and the others
 
@@ -104,13 +105,6 @@ feed-byte r b k hr hb e =
 
 -- ---- eight bytes by two numbers of four
 
-four-number : (a b c d : ℕ) → number (a ∷ b ∷ c ∷ d ∷ []) ≡ a * 16777216 + (b * 65536 + (c * 256 + d))
-four-number a b c d =
-    number-cons a (b ∷ c ∷ d ∷ [])
-    ∙ ap (λ (x : ℕ). a * 16777216 + x) (number-cons b (c ∷ d ∷ [])
-    ∙ ap (λ (x : ℕ). b * 65536 + x) (number-cons c (d ∷ [])
-    ∙ ap (λ (x : ℕ). c * 256 + x) (number-cons d [] ∙ ap (λ (x : ℕ). d * 1 + x) number-nil ∙ omega arith)))
-
 pub number-four : (i : ℕ) (l : List ℕ) → i + 4 ≤ length l
     → number (part i 4 l) ≡ getD l i 0 * 16777216 + (getD l (i + 1) 0 * 65536 + (getD l (i + 2) 0 * 256 + getD l (i + 3) 0))
 number-four i l h =
@@ -125,10 +119,7 @@ number-four i l h =
       part-cons (i + 3) 0 l (omega arith),
       part-none (i + 3 + 1) l,
     )
-    (four-number (getD l i 0) (getD l (i + 1) 0) (getD l (i + 2) 0) (getD l (i + 3) 0))
-
-run-four : (r : ℕ) (t : List ℕ) → r < 2 ^ 32 → Bytes t → length t ≡ 4 → run r t ≡ zeros 32 (bitXor r (number t))
-run-four r t hr ht e = rw (e, mul-one (number t)) at (run-top 0 r t (omega arith) hr ht)
+    (four-bytes (getD l i 0) (getD l (i + 1) 0) (getD l (i + 2) 0) (getD l (i + 3) 0))
 
 pub run-eight : (r i : ℕ) (l : List ℕ) → r < 2 ^ 32 → Bytes l → i + 8 ≤ length l
     → run r (part i 8 l) ≡ bitXor (zeros 64 (bitXor r (number (part i 4 l)))) (zeros 32 (number (part (i + 4) 4 l)))

@@ -6,8 +6,7 @@ use mathlib.Core.List.{List, [], _∷_, _++_}
 use Prim.Native.Nat.{ℕ, suc, _*_, _≤_, _<_}
 use lib.ListN.{length, take}
 use Rattle.fields.specs.Numbers.{Bytes}
-use Rattle.packet.specs.Cut.{cut, joined}
-use Rattle.packet.proofs.CutLaws.{AllWhole}
+use Rattle.packet.specs.Cut.{AllWhole, cut, joined}
 use Rattle.transport.specs.Tests.{pidOutside}
 use Rattle.carry.specs.Loads.{loadsOf}
 use Rattle.carry.specs.Theorems.{streamOf}

@@ -141,3 +141,11 @@ getD-bytes (suc k) n (suc i) h =
   where
     next : (j m : ℕ) → j - 1 - m ≡ suc j - 1 - suc m
     next j m = omega arith
+
+-- four bytes
+pub four-bytes : (a b c d : ℕ) → number (a ∷ b ∷ c ∷ d ∷ []) ≡ a * 16777216 + (b * 65536 + (c * 256 + d))
+four-bytes a b c d =
+    number-cons a (b ∷ c ∷ d ∷ [])
+    ∙ ap (λ (x : ℕ). a * 16777216 + x) (number-cons b (c ∷ d ∷ [])
+    ∙ ap (λ (x : ℕ). b * 65536 + x) (number-cons c (d ∷ [])
+    ∙ ap (λ (x : ℕ). c * 256 + x) (number-cons d [] ∙ ap (λ (x : ℕ). d * 1 + x) number-nil ∙ omega arith)))

@@ -12,9 +12,9 @@ use Rattle.fields.proofs.Cases.{cases}
 use Rattle.fields.proofs.NumberLaws.{bytes-append}
 use Rattle.fields.proofs.PartLaws.{take-front}
 use Rattle.packet.specs.Layout.{sizeOf}
-use Rattle.packet.specs.Cut.{Cut, cut, joined}
+use Rattle.packet.specs.Cut.{AllWhole, Cut, cut, joined}
 use Rattle.packet.proofs.LayoutLaws.{size-least}
-use Rattle.packet.proofs.CutLaws.{AllWhole, cut-cuts, first-whole, cut-all, joined-append}
+use Rattle.packet.proofs.CutLaws.{cut-cuts, first-whole, cut-all, joined-append}
 use Rattle.transport.specs.Header.{starts, pointerOf, payloadAt}
 use Rattle.gather.specs.State.{unfit}
 use Rattle.gather.specs.Rules.{Brought, broughtBy, Hand, upToStart, unfinished, follows, rulesOn}

@@ -16,9 +16,9 @@ use Rattle.fields.proofs.PartLaws.{length-part, overlay-is}
 use Rattle.refusals.specs.Checks.{first}
 use Rattle.refusals.proofs.CheckLaws.{first-zero}
 use Rattle.packet.specs.Layout.{sizeOf}
-use Rattle.packet.specs.Cut.{Whole, joined}
+use Rattle.packet.specs.Cut.{Whole, AllWhole, joined}
 use Rattle.packet.proofs.LayoutLaws.{size-least, size-append}
-use Rattle.packet.proofs.CutLaws.{AllWhole, cut-behind}
+use Rattle.packet.proofs.CutLaws.{cut-behind}
 use Rattle.transport.specs.Header.{countOf, starts, payloadAt, pointerOf}
 use Rattle.transport.specs.Tests.{fieldLong, transportChecks}
 use Rattle.transport.specs.Load.{Load, plain, start, headBytes, transportOf}

@@ -13,7 +13,7 @@ use Rattle.crc.specs.Crc.{crcHolds}
 use Rattle.fields.proofs.Cases.{cases}
 use Rattle.packet.proofs.LayoutLaws.{size-least, size-take, size-append}
 use Rattle.packet.specs.Layout.{sizeOf}
-use Rattle.packet.specs.Cut.{Whole, Cut, stop, more, cutBy, cut, joined, judgeOf}
+use Rattle.packet.specs.Cut.{Whole, AllWhole, Cut, stop, more, cutBy, cut, joined, judgeOf}
 use Rattle.packet.specs.declared.Judged.the-variants.{Short, Bad, Good}
 
 -- ---- with a bound on the packets, case by case
@@ -100,11 +100,6 @@ cut-whole p l w =
     let t : take (sizeOf (p ++ l)) (p ++ l) ≡ p = rw s (take-at p l (length p) refl) in
     let d : drop (sizeOf (p ++ l)) (p ++ l) ≡ l = rw s (drop-at p l (length p) refl) in
     cut-good (p ++ l) (rw s (simp length-append (omega arith))) (rw t (w .crc)) ∙ rw (t, d)
-
--- every packet is
-abbrev pub AllWhole : List (List ℕ) → Type 0
-AllWhole [] = Unit
-AllWhole (p ∷ ps) = Whole p × AllWhole ps
 
 -- every packet of a cut is whole, and the bytes are its packets and then its rest
 pub record Cuts (l : List ℕ) (c : Cut) : Type 0 where

@@ -16,6 +16,11 @@ pub record Whole (p : List ℕ) : Type 0 where
   pub size : length p ≡ sizeOf p
   pub crc : crcHolds p ≡ true
 
+-- every packet is one
+abbrev pub AllWhole : List (List ℕ) → Type 0
+AllWhole [] = Unit
+AllWhole (p ∷ ps) = Whole p × AllWhole ps
+
 -- the packet that the bytes begin with: fewer bytes than it needs, a wrong CRC, or good and so long
 unfoldable pub judgeOf : List ℕ → Judged
 judgeOf l = cond (leb (sizeOf l) (length l)) (cond (crcHolds (take (sizeOf l) l)) (Good (sizeOf l)) Bad) Short

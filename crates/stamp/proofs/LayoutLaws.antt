@@ -9,7 +9,7 @@ use lib.ListN.{List·getD-eq-default}
 use borrow.Author.Tests.{ltb-true, ltb-false, leb-true, eqb-true, eqb-false, eq-eqb, ne-eqb}
 use Rattle.fields.proofs.Cases.{cases}
 use Rattle.fields.proofs.Stretches.{allAre, over-stretch}
-use Rattle.stamp.specs.Layout.{unitTable, unitsOf, isNull, kindOf}
+use Rattle.stamp.specs.Layout.{unitTable, unitsOf, isNull, kindOf, Means}
 use Rattle.stamp.specs.declared.Stamp.{Stamp}
 use Rattle.stamp.specs.declared.Kind.{Kind}
 use Rattle.stamp.specs.declared.Kind.the-variants.{Null, Relative, Absolute}
@@ -29,12 +29,6 @@ units-most bw =
     (over-stretch (λ n. leb (unitsOf n) 131) true 0 6 tt bw (omega arith) (omega (arith, ltb-false 5 bw t))))
 
 -- ---- the kinds
-
--- what each kind says of a stamp
-abbrev pub Means : Kind → Stamp → Type 0
-Means Null s = isNull s ≡ true
-Means Relative s = s .seconds ≡ 0
-Means Absolute s = (isNull s ≡ false) × (s .seconds ≡ 0 → ⊥)
 
 -- a null stamp has all ones in its seconds
 null-later : (s : Stamp) → s .seconds ≡ 0 → isNull s ≡ false

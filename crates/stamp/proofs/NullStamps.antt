@@ -13,18 +13,11 @@ use Rattle.fields.specs.Numbers.{bytes}
 use Rattle.fields.proofs.FormatLaws.{unpack-halves}
 use Rattle.stamp.proofs.LayoutLaws.{units-most}
 use Rattle.stamp.proofs.RoundTrips.{reads}
-use Rattle.stamp.specs.Layout.{format, secondOf, ones, isNull, kindOf, secondReached}
+use Rattle.stamp.specs.Layout.{format, secondOf, ones, nullStamp, nullBytes, isNull, kindOf, secondReached}
 use Rattle.stamp.specs.Read.{readOf}
 use Rattle.stamp.specs.Write.{fieldsOf, stampBytes}
 use Rattle.stamp.specs.declared.Stamp.{Stamp}
 use Rattle.stamp.specs.declared.Kind.the-variants.{Null}
-
-abbrev pub nullStamp : ℕ → Stamp
-nullStamp bw = record { bw = bw; seconds = ones 40; subseconds = record { 0 = ones 27 }; utco = ones 13 }
-
--- the bandwidth code, and then ten bytes of ones
-abbrev pub nullBytes : ℕ → List ℕ
-nullBytes bw = bw ∷ replicate 10 255
 
 pub record NullRead (bw : ℕ) : Type 0 where
   pub reaches : secondOf bw ≤ nullStamp bw .subseconds .0

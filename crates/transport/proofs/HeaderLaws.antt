@@ -8,16 +8,9 @@ use lib.Dec.{eqb}
 use lib.ListN.{getD}
 use Rattle.fields.specs.Formats.{unpack}
 use Rattle.fields.specs.Numbers.{Bytes, number}
-use Rattle.fields.proofs.NumberLaws.{number-cons, number-nil}
+use Rattle.fields.proofs.NumberLaws.{four-bytes}
 use Rattle.fields.proofs.Cases.{cases}
 use Rattle.transport.specs.Header.{header, field, controlOf, payloadAt}
-
-four : (a b c d : ℕ) → number (a ∷ b ∷ c ∷ d ∷ []) ≡ a * 16777216 + (b * 65536 + (c * 256 + d))
-four a b c d =
-    number-cons a (b ∷ c ∷ d ∷ [])
-    ∙ ap (λ (x : ℕ). a * 16777216 + x) (number-cons b (c ∷ d ∷ [])
-    ∙ ap (λ (x : ℕ). b * 65536 + x) (number-cons c (d ∷ [])
-    ∙ ap (λ (x : ℕ). c * 256 + x) (number-cons d [] ∙ ap (λ (x : ℕ). d * 1 + x) number-nil ∙ omega arith)))
 
 module _ (t : List ℕ) (b : Bytes t) where
   abbrev b0 : ℕ
@@ -34,31 +27,31 @@ module _ (t : List ℕ) (b : Bytes t) where
 
   pub sync-byte : field 0 t ≡ b0
   unfolding field unpack
-  sync-byte = rw (four b0 b1 b2 b3) (omega (arith, b 0, b 1, b 2, b 3))
+  sync-byte = rw (four-bytes b0 b1 b2 b3) (omega (arith, b 0, b 1, b 2, b 3))
 
   pub error-byte : field 1 t ≡ b1 / 128
   unfolding field unpack
-  error-byte = rw (four b0 b1 b2 b3) (omega (arith, b 0, b 1, b 2, b 3))
+  error-byte = rw (four-bytes b0 b1 b2 b3) (omega (arith, b 0, b 1, b 2, b 3))
 
   pub start-byte : field 2 t ≡ b1 / 64 % 2
   unfolding field unpack
-  start-byte = rw (four b0 b1 b2 b3) (omega (arith, b 0, b 1, b 2, b 3))
+  start-byte = rw (four-bytes b0 b1 b2 b3) (omega (arith, b 0, b 1, b 2, b 3))
 
   pub pid-bytes : field 4 t ≡ b1 % 32 * 256 + b2
   unfolding field unpack
-  pid-bytes = rw (four b0 b1 b2 b3) (omega (arith, b 0, b 1, b 2, b 3))
+  pid-bytes = rw (four-bytes b0 b1 b2 b3) (omega (arith, b 0, b 1, b 2, b 3))
 
   pub scrambling-byte : field 5 t ≡ b3 / 64
   unfolding field unpack
-  scrambling-byte = rw (four b0 b1 b2 b3) (omega (arith, b 0, b 1, b 2, b 3))
+  scrambling-byte = rw (four-bytes b0 b1 b2 b3) (omega (arith, b 0, b 1, b 2, b 3))
 
   pub control-byte : field 6 t ≡ b3 / 16 % 4
   unfolding field unpack
-  control-byte = rw (four b0 b1 b2 b3) (omega (arith, b 0, b 1, b 2, b 3))
+  control-byte = rw (four-bytes b0 b1 b2 b3) (omega (arith, b 0, b 1, b 2, b 3))
 
   pub count-byte : field 7 t ≡ b3 % 16
   unfolding field unpack
-  count-byte = rw (four b0 b1 b2 b3) (omega (arith, b 0, b 1, b 2, b 3))
+  count-byte = rw (four-bytes b0 b1 b2 b3) (omega (arith, b 0, b 1, b 2, b 3))
 
   -- where the payload begins fits anything
   pub payload-most : payloadAt t ≤ 260

@@ -17,9 +17,9 @@ use Rattle.fields.proofs.PartLaws.{overlay-is}
 use Rattle.refusals.specs.Checks.{first}
 use Rattle.refusals.proofs.AnswerLaws.{answer-accepted}
 use Rattle.refusals.proofs.CheckLaws.{first-zero}
-use Rattle.packet.specs.Cut.{Cut, joined}
+use Rattle.packet.specs.Cut.{AllWhole, Cut, joined}
 use Rattle.packet.proofs.LayoutLaws.{size-most}
-use Rattle.packet.proofs.CutLaws.{AllWhole, cut-all}
+use Rattle.packet.proofs.CutLaws.{cut-all}
 use Rattle.transport.specs.Load.{Load, transportOf}
 use Rattle.transport.specs.Tests.{pidOutside}
 use Rattle.transport.proofs.LoadLaws.{Sound, transport-length}

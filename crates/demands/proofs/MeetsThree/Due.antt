@@ -7,8 +7,7 @@ use mathlib.Core.List.{List, [], _∷_, _++_, append-assoc, append-nil}
 use native.Mathlib.Omega.{arith}
 use lib.ListN.{length, take, drop, replicate, length-append, length-replicate, replicate-append-replicate}
 use lib.Seq.{take-append-add, drop-append-add, take-at, drop-at}
-use Rattle.packet.specs.Cut.{joined}
-use Rattle.packet.proofs.CutLaws.{AllWhole}
+use Rattle.packet.specs.Cut.{AllWhole, joined}
 use Rattle.carry.proofs.LoadLaws.{whole-long}
 use Rattle.demands.specs.Route.{keep}
 use Rattle.demands.proofs.MeetsThree.Events.{every, complete}

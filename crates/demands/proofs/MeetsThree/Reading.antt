@@ -10,8 +10,7 @@ use lib.ListN.{length, take, drop}
 use lib.Seq.{take-append-seam, drop-append-seam}
 use borrow.Author.Tests.{ne-eqb}
 use Rattle.packet.specs.Layout.{sizeOf}
-use Rattle.packet.specs.Cut.{Whole, joined}
-use Rattle.packet.proofs.CutLaws.{AllWhole}
+use Rattle.packet.specs.Cut.{Whole, AllWhole, joined}
 use Rattle.transport.specs.Load.{Load, plain, start, transportOf}
 use Rattle.transport.proofs.LoadLaws.{Sound}
 use Rattle.carry.proofs.Flow.{Way, none, under}

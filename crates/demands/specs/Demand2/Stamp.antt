@@ -5,12 +5,10 @@ use mathlib.Core.List.{List}
 use lib.ListN.{length}
 use Rattle.fields.specs.Numbers.{Bytes}
 use Rattle.refusals.specs.Checks.{first}
-use Rattle.stamp.specs.Layout.{unitsOf}
+use Rattle.stamp.specs.Layout.{unitsOf, Means, nullStamp, nullBytes}
 use Rattle.stamp.specs.Read.{readChecks, stampOf}
 use Rattle.stamp.specs.Write.{writeChecks, stampBytes}
 use Rattle.stamp.specs.declared.Stamp.{Stamp}
-use Rattle.stamp.proofs.LayoutLaws.{Means}
-use Rattle.stamp.proofs.NullStamps.{nullStamp, nullBytes}
 use Rattle.demands.specs.Library.{Library}
 use Rattle.demands.specs.Demand2.Writing.{laid, writtenBy}
 
