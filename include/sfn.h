@@ -1,4 +1,4 @@
-/* sfn.h: Wasukpelon as C and C++ programs see it. Link libboundary.a, which `rt staticlib boundary` makes.
+/* sfn.h: Wasukpelon as C and C++ programs see it. Link libsfn.a, which `rt staticlib sfn` makes.
  *
  * Answers. Each call but sfn_crc gives a struct by value. Its `refusal` is 0 where the call did its work. Otherwise it
  * is a number of document 01 (each function lists its own in the order in which they are looked for; the first that

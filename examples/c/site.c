@@ -2,7 +2,7 @@
  *
  *     site TRANSMITTER [FILE]      the identifier in decimal or 0x..; without FILE, from standard input
  *
- * Build it with include/ on the include path and libboundary.a. It shows the calls in their order: sfn_start once,
+ * Build it with include/ on the include path and libsfn.a. It shows the calls in their order: sfn_start once,
  * sfn_gather for each 188 bytes, sfn_packet_read for each packet handed out, then the reader of its payload. */
 #include "sfn.h"
 

@@ -1,7 +1,7 @@
 //! Links the proved library, where a group of it is to be compared.
 //!
 //! SFN_LIB_DIR is the directory of the static library and SFN_LIB_NAME its name
-//! (without `lib` and `.a`), `boundary` if not given.
+//! (without `lib` and `.a`), `sfn` if not given.
 
 use std::env;
 
@@ -15,7 +15,7 @@ fn main() {
     }
     let directory = env::var("SFN_LIB_DIR")
         .expect("a group is switched on: SFN_LIB_DIR must name the library's directory");
-    let name = env::var("SFN_LIB_NAME").unwrap_or_else(|_| "boundary".to_string());
+    let name = env::var("SFN_LIB_NAME").unwrap_or_else(|_| "sfn".to_string());
     // Without this line a rebuilt library would be compared in its old form.
     println!("cargo:rerun-if-changed={directory}/lib{name}.a");
     println!("cargo:rustc-link-search=native={directory}");

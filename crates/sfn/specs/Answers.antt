@@ -1,0 +1,57 @@
+-- An answer of a crate below, laid out flat, and arguments that stand apart, put together.
+use Prim.Native.Nat.{ℕ}
+use mathlib.Core.Bool.{Bool, true, false}
+use lib.IntN.{ℤ, pos}
+use Rattle.functions.specs.declared.Function.{Function}
+use Rattle.functions.specs.declared.Function.the-variants.{TimeOffset, FrequencyOffset, Power, Private, Cell, Enable, Bandwidth, Passed}
+use Rattle.sfn.specs.declared.SfnFunction.{SfnFunction}
+use Rattle.packet.specs.declared.Packet.{Packet}
+use Rattle.stamp.specs.declared.Stamp.{Stamp}
+use Rattle.stamp.specs.declared.StampRead.{StampRead}
+use Rattle.sfn.specs.declared.SfnStamp.{SfnStamp}
+use Rattle.sfn.specs.declared.SfnPacket.{SfnPacket}
+
+abbrev pub packetOf : Packet → SfnPacket
+packetOf p =
+    record {
+      refusal = p .refusal;
+      bits = p .header .bits;
+      kind = p .header .kind;
+      count = p .header .count;
+      frame = p .header .frame;
+      stream = p .header .stream;
+    }
+
+abbrev pub stampOf : StampRead → SfnStamp
+stampOf p =
+    record {
+      seconds = p .stamp .seconds;
+      refusal = p .refusal;
+      subseconds = p .stamp .subseconds .0;
+      utco = p .stamp .utco;
+      bw = p .stamp .bw;
+    }
+
+abbrev pub stampFrom : ℕ → ℕ → ℕ → ℕ → Stamp
+stampFrom bw seconds subseconds utco = record { bw = bw; seconds = seconds; subseconds = record { 0 = subseconds }; utco = utco }
+
+-- a flag as a number
+abbrev pub bitOf : Bool → ℕ
+bitOf true = 1
+bitOf false = 0
+
+-- a function that has a tag of the table: its kind is its tag
+abbrev pub ofKind : ℕ → ℕ → ℤ → ℕ → ℕ → SfnFunction
+ofKind n kind value wait rest = record { refusal = n; value = value; kind = kind; tag = kind; wait = wait; reserved = rest }
+
+-- a function by its kind: 0 to 6 as the tag, 7 for one that is passed through. With a refusal it is a time offset of 0, so
+-- that all but the number is 0
+abbrev pub functionOf : ℕ → Function → SfnFunction
+functionOf n (TimeOffset t) = ofKind n 0 t 0 0
+functionOf n (FrequencyOffset f) = ofKind n 1 f 0 0
+functionOf n (Power p) = ofKind n 2 (pos p) 0 0
+functionOf n Private = ofKind n 3 (pos 0) 0 0
+functionOf n (Cell id wait rest) = ofKind n 4 (pos id) (bitOf wait) rest
+functionOf n Enable = ofKind n 5 (pos 0) 0 0
+functionOf n (Bandwidth v wait) = ofKind n 6 (pos v) (bitOf wait) 0
+functionOf n (Passed tag) = record { refusal = n; value = pos 0; kind = 7; tag = tag; wait = 0; reserved = 0 }
