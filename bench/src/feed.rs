@@ -1,11 +1,8 @@
 //! A made-up feed in memory: T2-MI packets of one size, carried by the library's own writers.
 
-use wasukpelon::sfn::{carry, packet_write, Header, TRANSPORT};
+use wasukpelon::sfn::{carry, carry_room, packet_write, Header, BATCH_MOST, TRANSPORT};
 
 pub const PID: u16 = 0x1000;
-
-/// The most bytes of a batch (01, refusal 15).
-const BATCH: usize = 65536;
 
 /// Numbers that look random and are the same in every run.
 pub struct Numbers(pub u64);
@@ -23,11 +20,12 @@ impl Numbers {
     }
 }
 
-/// The packet of `size` bytes under a count. The longest one has a payload_len of 65,535 bits and so one pad bit.
+/// The packet of `size` bytes under a count: 10 of its own, and the payload. The longest one has a payload_len of
+/// 65,535 bits and so one pad bit.
 fn packet(size: usize, count: u8, numbers: &mut Numbers) -> Vec<u8> {
     let mut payload = numbers.bytes(size - 10);
-    let bits = (8 * payload.len()).min(65535);
-    if bits < 8 * payload.len() {
+    let bits = u16::try_from(8 * payload.len()).unwrap_or(u16::MAX);
+    if usize::from(bits) < 8 * payload.len() {
         *payload.last_mut().expect("bits without bytes") &= 0xfe;
     }
     let header = Header {
@@ -35,7 +33,7 @@ fn packet(size: usize, count: u8, numbers: &mut Numbers) -> Vec<u8> {
         count,
         frame: 0,
         stream: 0,
-        bits: bits as u32,
+        bits,
     };
     let mut out = vec![0; size];
     packet_write(header, &payload, &mut out).expect("a packet of the feed was refused");
@@ -44,7 +42,7 @@ fn packet(size: usize, count: u8, numbers: &mut Numbers) -> Vec<u8> {
 
 /// A batch as full as packets of this size make it.
 fn batch(size: usize, numbers: &mut Numbers) -> Vec<u8> {
-    let packets = BATCH / size;
+    let packets = BATCH_MOST / size;
     (0..packets)
         .flat_map(|n| packet(size, n as u8, numbers))
         .collect()
@@ -54,7 +52,7 @@ fn batch(size: usize, numbers: &mut Numbers) -> Vec<u8> {
 pub fn feed(size: usize, len: usize) -> Vec<u8> {
     let mut numbers = Numbers(0x5eed_0fa1);
     let batches: Vec<Vec<u8>> = (0..4).map(|_| batch(size, &mut numbers)).collect();
-    let mut room = vec![0; TRANSPORT * (BATCH / 183 + 1)];
+    let mut room = vec![0; carry_room(BATCH_MOST)];
     let mut feed = Vec::with_capacity(len + room.len());
     let mut count = 0;
     for batch in batches.iter().cycle() {

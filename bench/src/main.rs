@@ -1,4 +1,5 @@
-//! How fast the proved library gathers, beside an obvious Rust program on the same feed in memory.
+//! How fast the proved library gathers, beside an obvious Rust program on the same feed in memory. Ours is called as a
+//! user calls it: each packet that a call hands out is cut out by the library's own length.
 //!
 //!     bench                  64 MiB, 9 rounds
 //!     bench --quick          8 MiB, 3 rounds
@@ -106,8 +107,8 @@ struct Line {
     pieces: usize,
 }
 
-/// Runs the two in turn and prints a line: the median speed of each, ours as a part of the other, and each one's time for
-/// a piece.
+/// Runs the two in turn and prints a line: the median speed of each, ours as a part of the other, and each one's time
+/// for a piece.
 fn compare<T>(line: Line, rounds: usize, ours: impl Fn() -> T, plain: impl Fn() -> T) {
     let pairs = (0..rounds).map(|_| (seconds(&ours), seconds(&plain)));
     let (ours, plain): (Vec<f64>, Vec<f64>) = pairs.unzip();

@@ -1,5 +1,5 @@
-//! The obvious program: what a Rust programmer would write for the same rules, without a thought for proofs. The CRC goes
-//! by table, byte by byte; unfinished packets wait in a `Vec`; packets are handed to a closure where they lie.
+//! The obvious program: what a Rust programmer would write for the same rules, without a thought for proofs. The CRC
+//! goes by table, byte by byte; unfinished packets wait in a `Vec`; packets are handed to a closure where they lie.
 
 /// The CRC's polynomial without its top bit: exponents 26, 23, 22, 16, 12, 11, 10, 8, 7, 5, 4, 2, 1, 0 (01, "CRC").
 const POLYNOMIAL: u32 = 0x04c1_1db7;

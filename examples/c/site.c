@@ -1,9 +1,11 @@
-/* What one transmitter hears in a feed of T2-MI in transport packets: the timestamps, and the functions addressed to it.
+/* What one transmitter hears in a feed of T2-MI in transport packets: the timestamps, and the functions addressed to
+ * it.
  *
  *     site TRANSMITTER [FILE]      the identifier in decimal or 0x..; without FILE, from standard input
  *
- * Build it with include/ on the include path and libsfn.a. It shows the calls in their order: sfn_start once,
- * sfn_gather for each 188 bytes, sfn_packet_read for each packet handed out, then the reader of its payload. */
+ * Once `./install` has put the library in place: cc site.c $(pkg-config --cflags --libs sfn) -o site. It shows the
+ * calls in their order: sfn_start once, sfn_gather for each 188 bytes, sfn_packet_length to cut what it handed out
+ * into packets, sfn_packet_read for each of them, then the reader of its payload. */
 #include "sfn.h"
 
 #include <errno.h>
@@ -11,27 +13,29 @@
 #include <stdlib.h>
 #include <string.h>
 
-enum { PID = 0x1000, TRANSPORT = 188, GATHERING = 8202, OUTPUT = 8385 };
+enum { PID = 0x1000 };
 
 /* What is counted over the whole feed. */
 struct tally {
     unsigned long transport, refused, packets, losses, misfits, crcs;
 };
 
+static const char *stamp_word(uint8_t kind) {
+    switch (kind) {
+    case SFN_STAMP_RELATIVE: return "relative";
+    case SFN_STAMP_NULL: return "null";
+    default: return "absolute";
+    }
+}
+
 static void print_stamp(const uint8_t *payload, size_t len) {
     struct sfn_stamp s = sfn_stamp_read(payload, len);
-    const char *kind = "absolute";
     if (s.refusal != 0) {
         printf("stamp refused %u\n", (unsigned)s.refusal);
         return;
     }
-    if (s.seconds == 0xFFFFFFFFFF && s.subseconds == 0x7FFFFFF && s.utco == 0x1FFF) {
-        kind = "null"; /* all ones in the three fields (01) */
-    } else if (s.seconds == 0) {
-        kind = "relative";
-    }
     printf("stamp bw %u seconds %llu subseconds %u utco %u %s\n", s.bw, (unsigned long long)s.seconds,
-           (unsigned)s.subseconds, s.utco, kind);
+           (unsigned)s.subseconds, s.utco, stamp_word(s.kind));
 }
 
 static void print_body(const char *name, const uint8_t *body, size_t len) {
@@ -50,13 +54,13 @@ static void print_function(uint8_t tag, const uint8_t *body, size_t len) {
     }
     printf("function %u ", f.tag);
     switch (f.kind) {
-    case 0: printf("time offset %d\n", (int)f.value); break;
-    case 1: printf("frequency offset %d\n", (int)f.value); break;
-    case 2: printf("power %d\n", (int)f.value); break;
-    case 3: print_body("private", body, len); break;
-    case 4: printf("cell %d wait %u reserved %u\n", (int)f.value, f.wait, f.reserved); break;
-    case 5: print_body("enabled", body, len); break;
-    case 6: printf("bandwidth %d wait %u\n", (int)f.value, f.wait); break;
+    case SFN_TIME_OFFSET: printf("time offset %d\n", (int)f.value); break;
+    case SFN_FREQUENCY_OFFSET: printf("frequency offset %d\n", (int)f.value); break;
+    case SFN_POWER: printf("power %d\n", (int)f.value); break;
+    case SFN_PRIVATE: print_body("private", body, len); break;
+    case SFN_CELL: printf("cell %d wait %u reserved %u\n", (int)f.value, f.wait, f.reserved); break;
+    case SFN_ENABLE: print_body("enabled", body, len); break;
+    case SFN_BANDWIDTH: printf("bandwidth %d wait %u\n", (int)f.value, f.wait); break;
     default: print_body("passed through", body, len); break;
     }
 }
@@ -78,7 +82,7 @@ static void print_functions(const uint8_t *payload, size_t len, uint16_t transmi
 
 static void print_packet(const uint8_t *packet, size_t len, uint16_t transmitter) {
     struct sfn_packet p = sfn_packet_read(packet, len);
-    const uint8_t *payload = packet + 6;
+    const uint8_t *payload = packet + 6; /* payload and length as sfn.h says at struct sfn_packet */
     size_t payload_len = (p.bits + 7) / 8;
     if (p.refusal != 0) {
         printf("packet refused %u\n", (unsigned)p.refusal);
@@ -89,14 +93,14 @@ static void print_packet(const uint8_t *packet, size_t len, uint16_t transmitter
     }
 }
 
-/* Packets handed out lie back to back; each one's own length says where the next begins. */
+/* Packets handed out lie back to back; the length of each says where the next begins, and is 0 behind the last. */
 static void print_packets(const uint8_t *out, size_t bytes, uint16_t transmitter) {
     size_t at = 0;
-    while (at < bytes) {
-        size_t bits = (size_t)out[at + 4] * 256 + out[at + 5];
-        size_t len = 10 + (bits + 7) / 8;
+    size_t len = sfn_packet_length(out, bytes);
+    while (len != 0) {
         print_packet(out + at, len, transmitter);
         at += len;
+        len = sfn_packet_length(out + at, bytes - at);
     }
 }
 
@@ -110,17 +114,17 @@ static void count(struct tally *t, const struct sfn_gathered *g) {
 }
 
 /* Goes through the feed and gives the length of a cut last piece, which is set aside. */
-static size_t listen(FILE *feed, uint16_t transmitter, struct tally *t) {
-    static uint8_t gathering[GATHERING], out[OUTPUT];
-    uint8_t transport[TRANSPORT];
+static size_t hear(FILE *feed, uint16_t transmitter, struct tally *t) {
+    static uint8_t gathering[SFN_GATHERING], out[SFN_OUTPUT];
+    uint8_t transport[SFN_TRANSPORT];
     struct sfn_reader reader = sfn_start(PID).reader; /* 0x1000 is never refused */
-    size_t len = fread(transport, 1, TRANSPORT, feed);
-    while (len == TRANSPORT) {
-        struct sfn_gathered g = sfn_gather(reader, transport, len, gathering, GATHERING, out, OUTPUT);
+    size_t len = fread(transport, 1, sizeof transport, feed);
+    while (len == sizeof transport) {
+        struct sfn_gathered g = sfn_gather(reader, transport, len, gathering, sizeof gathering, out, sizeof out);
         reader = g.reader; /* also after a refusal: then it is the old one */
         count(t, &g);
         print_packets(out, g.bytes, transmitter);
-        len = fread(transport, 1, TRANSPORT, feed);
+        len = fread(transport, 1, sizeof transport, feed);
     }
     return len;
 }
@@ -158,7 +162,7 @@ int main(int argc, char **argv) {
         fprintf(stderr, "site: %s: %s\n", argv[2], strerror(errno));
         return 1;
     }
-    size_t cut = listen(feed, (uint16_t)transmitter, &t);
+    size_t cut = hear(feed, (uint16_t)transmitter, &t);
     if (ferror(feed)) {
         fprintf(stderr, "site: the feed cannot be read to its end: %s\n", strerror(errno));
         return 1;

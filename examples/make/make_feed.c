@@ -1,6 +1,6 @@
-/* Writes the recorded feed of examples/ to standard output: T2-MI packets made and carried by the library's own writers,
- * then a link that loses, repeats and damages some of the transport packets. Nothing here depends on time or chance: each
- * run writes the same bytes. examples/README.md says what is in them. */
+/* Writes the recorded feed of examples/ to standard output: T2-MI packets made and carried by the library's own
+ * writers, then a link that loses, repeats and damages some of the transport packets. Nothing here depends on time or
+ * chance: each run writes the same bytes. examples/README.md says what is in them. */
 #include "sfn.h"
 
 #include <stdio.h>
@@ -9,15 +9,13 @@
 
 enum {
     PID = 0x1000,
-    TRANSPORT = 188,
-    BATCH_MOST = 65536,            /* 01, refusal 15 */
-    ROOM = 188 * (65536 / 183 + 1), /* enough for every batch */
+    ROOM = SFN_TRANSPORT * (SFN_BATCH_MOST / 183 + 1), /* enough for every batch, as sfn.h says at sfn_carry */
     FRAMES = 8
 };
 
 /* ---- T2-MI packets, one behind the other in a batch ---- */
 
-static uint8_t batch[BATCH_MOST];
+static uint8_t batch[SFN_BATCH_MOST];
 static size_t batch_len = 0;
 static uint8_t packet_count = 250; /* it goes on from 255 to 0 within the feed */
 
@@ -76,7 +74,8 @@ static void begin_group(uint16_t transmitter) {
 
 static void add_function(uint8_t kind, uint8_t tag, int32_t value, uint8_t wait, const uint8_t *bytes, size_t len) {
     uint8_t *at = data + data_len;
-    struct sfn_written w = sfn_function_write(kind, tag, value, wait, 0, bytes, len, at + 2, sizeof data - data_len - 2);
+    size_t room = sizeof data - data_len - 2;
+    struct sfn_written w = sfn_function_write(kind, tag, value, wait, 0, bytes, len, at + 2, room);
     must(w.refusal, "a function");
     at[0] = tag;
     at[1] = (uint8_t)(2 + w.bytes); /* the house rule: the length counts tag and length too */
@@ -97,25 +96,25 @@ static const uint8_t NONE[1] = {0};
 static void add_first_addressing(uint8_t frame) {
     const uint8_t enabled[] = {0, 1, 2, 4, 6}, secret[] = {0xC0, 0xFF, 0xEE};
     begin_group(0x0000);
-    add_function(5, 5, 0, 0, enabled, sizeof enabled);
-    add_function(6, 6, 0, 1, NONE, 0);
+    add_function(SFN_ENABLE, 5, 0, 0, enabled, sizeof enabled);
+    add_function(SFN_BANDWIDTH, 6, 0, 1, NONE, 0);
     begin_group(0x0101);
-    add_function(0, 0, -120, 0, NONE, 0);
-    add_function(1, 1, 250, 0, NONE, 0);
-    add_function(2, 2, 601, 0, NONE, 0);
+    add_function(SFN_TIME_OFFSET, 0, -120, 0, NONE, 0);
+    add_function(SFN_FREQUENCY_OFFSET, 1, 250, 0, NONE, 0);
+    add_function(SFN_POWER, 2, 601, 0, NONE, 0);
     begin_group(0x0202);
-    add_function(0, 0, 32767, 0, NONE, 0);
-    add_function(3, 3, 0, 0, secret, sizeof secret);
+    add_function(SFN_TIME_OFFSET, 0, 32767, 0, NONE, 0);
+    add_function(SFN_PRIVATE, 3, 0, 0, secret, sizeof secret);
     add_addressing(frame);
 }
 
 static void add_second_addressing(uint8_t frame) {
     const uint8_t unknown[] = {0xDE, 0xAD};
     begin_group(0x0202);
-    add_function(1, 1, -8388608, 0, NONE, 0);
+    add_function(SFN_FREQUENCY_OFFSET, 1, -8388608, 0, NONE, 0);
     begin_group(0x0101);
-    add_function(4, 4, 0x1234, 1, NONE, 0);
-    add_function(7, 9, 0, 0, unknown, sizeof unknown);
+    add_function(SFN_CELL, 4, 0x1234, 1, NONE, 0);
+    add_function(SFN_PASSED, 9, 0, 0, unknown, sizeof unknown);
     add_addressing(frame);
 }
 
@@ -150,7 +149,7 @@ static void make_frame(uint8_t frame) {
 
 /* ---- the link ---- */
 
-static void send(const uint8_t *bytes, size_t len) {
+static void put(const uint8_t *bytes, size_t len) {
     if (fwrite(bytes, 1, len, stdout) != len) {
         fprintf(stderr, "make_feed: the feed cannot be written\n");
         exit(1);
@@ -158,14 +157,14 @@ static void send(const uint8_t *bytes, size_t len) {
 }
 
 /* A packet of another PID, as other services have them in the same stream. */
-static void send_other(uint16_t pid, unsigned number) {
-    uint8_t packet[TRANSPORT] = {0x47, (uint8_t)(pid >> 8), (uint8_t)pid, (uint8_t)(0x10 | (number & 15))};
+static void put_other(uint16_t pid, unsigned number) {
+    uint8_t packet[SFN_TRANSPORT] = {0x47, (uint8_t)(pid >> 8), (uint8_t)pid, (uint8_t)(0x10 | (number & 15))};
     memset(packet + 4, 0xFF, sizeof packet - 4);
-    send(packet, sizeof packet);
+    put(packet, sizeof packet);
 }
 
-/* Makes the first T2-MI packet that begins here say that it is 32 bytes longer than it is. It stands behind the header (4),
- * the pointer (1) and as many bytes as the pointer says; the higher byte of payload_len is its fifth. */
+/* Makes the first T2-MI packet that begins here say that it is 32 bytes longer than it is. It stands behind the header
+ * (4), the pointer (1) and as many bytes as the pointer says; the higher byte of payload_len is its fifth. */
 static void lengthen(uint8_t *packet) {
     packet[4 + 1 + packet[4] + 4]++;
 }
@@ -183,16 +182,16 @@ static void pass_on(uint8_t *packet, unsigned number) {
         lengthen(packet);
     }
     if (!lost) {
-        send(packet, TRANSPORT);
+        put(packet, SFN_TRANSPORT);
     }
     if (number == 33) {
-        send(packet, TRANSPORT); /* again */
+        put(packet, SFN_TRANSPORT); /* again */
     }
     if (number % 9 == 4) {
-        send_other(0x0100, number / 9);
+        put_other(0x0100, number / 9);
     }
     if (number % 25 == 24) {
-        send_other(0x1FFF, 0);
+        put_other(0x1FFF, 0);
     }
 }
 
@@ -207,9 +206,9 @@ int main(void) {
         must(c.refusal, "a batch");
         next_count = c.next_count;
         for (uint32_t i = 0; i < c.packets; i++) {
-            pass_on(out + TRANSPORT * i, number++);
+            pass_on(out + SFN_TRANSPORT * i, number++);
         }
     }
-    send(out, 77); /* the recording stopped in the midst of a transport packet */
+    put(out, 77); /* the recording stopped in the midst of a transport packet */
     return fflush(stdout) != 0;
 }

@@ -42,17 +42,50 @@ static void packets_and_stamps(void) {
     expect("stamp.subseconds", s.subseconds, 0x01234567);
     expect("stamp.utco", s.utco, 0x1234);
     expect("stamp.bw", s.bw, 4);
+    expect("stamp.kind", s.kind, SFN_STAMP_ABSOLUTE);
     packet[20] ^= 1;
     p = sfn_packet_read(packet, len);
-    expect("packet.refusal, CRC", p.refusal, 14);
+    expect("packet.refusal, CRC", p.refusal, SFN_REFUSED_CRC_WRONG);
     expect("packet.bits, refused", p.bits, 0);
+}
+
+/* Two packets back to back, of 10 bytes (no payload) and of 21. */
+static void lengths(void) {
+    const uint8_t none[1] = {0};
+    uint8_t packets[31];
+    struct sfn_written w = sfn_packet_write(0x12, 1, 2, 3, 0, none, 0, packets, sizeof packets);
+    expect("packet_write.bytes, no payload", w.bytes, 10);
+    stamp_packet(packets + 10, sizeof packets - 10);
+    expect("packet_length, alone", sfn_packet_length(packets, 10), 10);
+    expect("packet_length, a byte missing", sfn_packet_length(packets, 9), 0);
+    expect("packet_length, no bytes", sfn_packet_length(packets, 0), 0);
+    expect("packet_length, the first of two", sfn_packet_length(packets, sizeof packets), 10);
+    expect("packet_length, the second of two", sfn_packet_length(packets + 10, sizeof packets - 10), 21);
+    expect("packet_length, the second cut", sfn_packet_length(packets + 10, sizeof packets - 11), 0);
+}
+
+/* The kind of a stamp that is written with bandwidth 4 and read. */
+static int kind_of(uint64_t seconds, uint32_t subseconds, uint16_t utco) {
+    uint8_t payload[11];
+    expect("stamp_write.refusal", sfn_stamp_write(4, seconds, subseconds, utco, payload, sizeof payload).refusal, 0);
+    return sfn_stamp_read(payload, sizeof payload).kind;
+}
+
+static void kinds_of_stamps(void) {
+    uint8_t damaged[11] = {0x14}; /* a reserved bit */
+    expect("stamp.kind, absolute", kind_of(1, 7, 8), SFN_STAMP_ABSOLUTE);
+    expect("stamp.kind, relative", kind_of(0, 7, 8), SFN_STAMP_RELATIVE);
+    expect("stamp.kind, null", kind_of(0xFFFFFFFFFF, 0x7FFFFFF, 0x1FFF), SFN_STAMP_NULL);
+    struct sfn_stamp s = sfn_stamp_read(damaged, sizeof damaged);
+    expect("stamp.refusal, reserved bit", s.refusal, SFN_REFUSED_RESERVED_BIT_SET);
+    expect("stamp.kind, refused", s.kind, 0); /* its seconds are 0, and yet it is not called relative */
 }
 
 /* One transport packet with the stamp packet, under a continuity count. */
 static void carried(uint8_t count, uint8_t *transport) {
     uint8_t packet[32];
     size_t len = stamp_packet(packet, sizeof packet);
-    struct sfn_carried c = sfn_carry(0x1000, count, packet, len, transport, 188);
+    struct sfn_carried c = sfn_carry(0x1000, count, packet, len, transport, SFN_TRANSPORT);
     expect("carried.refusal", c.refusal, 0);
     expect("carried.packets", c.packets, 1);
     expect("carried.next_count", c.next_count, (count + 1) % 16);
@@ -67,32 +100,33 @@ static void marks(const char *what, struct sfn_gathered g, int loss, int misfit,
 }
 
 static void carriage(void) {
-    static uint8_t gathering[8202], out[8385];
-    uint8_t transport[188];
+    static uint8_t gathering[SFN_GATHERING], out[SFN_OUTPUT];
+    uint8_t transport[SFN_TRANSPORT];
     struct sfn_started s = sfn_start(0x1000);
     expect("started.refusal", s.refusal, 0);
     expect("started.pid", s.reader.pid, 0x1000);
-    expect("started.last", s.reader.last, 255);
+    expect("started.last", s.reader.last, SFN_NONE);
     carried(15, transport);
-    struct sfn_gathered g = sfn_gather(s.reader, transport, 188, gathering, sizeof gathering, out, sizeof out);
+    struct sfn_gathered g =
+        sfn_gather(s.reader, transport, sizeof transport, gathering, sizeof gathering, out, sizeof out);
     marks("gather: the first", g, 0, 0, 0);
     expect("gathered.last", g.reader.last, 15);
     expect("gathered.in_step", g.reader.in_step, 1);
     expect("gathered.bytes", g.bytes, 21);
     expect("gathered.packets", g.packets, 1);
-    g = sfn_gather(g.reader, transport, 188, gathering, sizeof gathering, out, sizeof out);
-    expect("gathered.refusal, again", g.refusal, 12);
+    g = sfn_gather(g.reader, transport, sizeof transport, gathering, sizeof gathering, out, sizeof out);
+    expect("gathered.refusal, again", g.refusal, SFN_REFUSED_COUNT_REPEATED);
     carried(3, transport);
-    g = sfn_gather(g.reader, transport, 188, gathering, sizeof gathering, out, sizeof out);
+    g = sfn_gather(g.reader, transport, sizeof transport, gathering, sizeof gathering, out, sizeof out);
     marks("gather: after a gap", g, 1, 0, 0);
     carried(4, transport);
     transport[187] ^= 1; /* the last byte of the packet's CRC: the adaptation field stands before */
-    g = sfn_gather(g.reader, transport, 188, gathering, sizeof gathering, out, sizeof out);
+    g = sfn_gather(g.reader, transport, sizeof transport, gathering, sizeof gathering, out, sizeof out);
     marks("gather: damaged", g, 0, 0, 1);
     struct sfn_reader waits = {0x1000, 2, 1, 7};
     memset(gathering, 0, sizeof gathering);
     carried(3, transport);
-    g = sfn_gather(waits, transport, 188, gathering, sizeof gathering, out, sizeof out);
+    g = sfn_gather(waits, transport, sizeof transport, gathering, sizeof gathering, out, sizeof out);
     marks("gather: unfinished", g, 0, 1, 0);
 }
 
@@ -116,11 +150,11 @@ static void addressing(void) {
     struct sfn_function f = sfn_function_read(step.tag, data + step.start, step.body);
     expect("function.refusal", f.refusal, 0);
     expect("function.value", f.value, 0x1234);
-    expect("function.kind", f.kind, 4);
+    expect("function.kind", f.kind, SFN_CELL);
     expect("function.tag", f.tag, 4);
     expect("function.wait", f.wait, 1);
     expect("function.reserved", f.reserved, 5);
-    w = sfn_function_write(4, 4, 0x1234, 1, 5, data, 0, body, sizeof body);
+    w = sfn_function_write(SFN_CELL, 4, 0x1234, 1, 5, data, 0, body, sizeof body);
     expect("function_write.refusal", w.refusal, 0);
     expect("function_write.bytes", w.bytes, 3);
     expect("function_write, body", memcmp(body, data + 11, 3), 0);
@@ -128,7 +162,7 @@ static void addressing(void) {
 
 static void site(void) {
     const uint8_t data[] = {1, 2, 4, 0, 4, 0xFF, 0xFE}; /* 0x0102: a time offset of -2 */
-    uint8_t packet[188];
+    uint8_t packet[SFN_TRANSPORT];
     struct sfn_written w =
         sfn_mip_write(11, 0x2345, 1, 0x6789, 9000001, 2000002, 0x89ABCDEF, data, sizeof data, packet, sizeof packet);
     expect("mip_write.refusal", w.refusal, 0);
@@ -152,12 +186,14 @@ static void site(void) {
     expect("extra_delay.refusal", t.refusal, 0);
     expect("extra_delay.steps", t.steps, 9999997);
     t = sfn_extra_delay(m.stamp, m.delay, 40000, 0);
-    expect("extra_delay.refusal, offset", t.refusal, 38);
+    expect("extra_delay.refusal, offset", t.refusal, SFN_REFUSED_TOO_WIDE_OR_UNFIT_STATE);
 }
 
 int main(void) {
     expect("crc", sfn_crc((const uint8_t *)"123456789", 9), 0x0376E6E7); /* a published check value */
     packets_and_stamps();
+    lengths();
+    kinds_of_stamps();
     carriage();
     addressing();
     site();

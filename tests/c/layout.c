@@ -1,5 +1,6 @@
-/* Where each field of sfn.h lies, in bytes, as the library's own structs have it (`repr(C)` on x86-64), and what each
- * function takes. It is compiled as C11 and as C++11 and never run: what moves stops the compiler. */
+/* Where each field of sfn.h lies, in bytes, as the library's own structs have it (`repr(C)` on x86-64), what each
+ * function takes, and what the constants are. It is compiled as C11 and as C++11 and never run: what moves stops the
+ * compiler. */
 #include "sfn.h"
 
 #include <assert.h>
@@ -51,6 +52,7 @@ FIELD(sfn_stamp, refusal, 8, 4);
 FIELD(sfn_stamp, subseconds, 12, 4);
 FIELD(sfn_stamp, utco, 16, 2);
 FIELD(sfn_stamp, bw, 18, 1);
+FIELD(sfn_stamp, kind, 19, 1);
 
 SIZE(sfn_addressing, 8);
 FIELD(sfn_addressing, refusal, 0, 4);
@@ -87,11 +89,44 @@ SIZE(sfn_time, 8);
 FIELD(sfn_time, refusal, 0, 4);
 FIELD(sfn_time, steps, 4, 4);
 
+/* The constants, as document 01 has the numbers; the kinds are for `switch`, so they must be constants to C. */
+#define VALUE(name, number) static_assert((name) == (number), #name " is another number")
+
+VALUE(SFN_TRANSPORT, 188);
+VALUE(SFN_PACKET_MOST, 8202);
+VALUE(SFN_GATHERING, 8202);
+VALUE(SFN_OUTPUT, 8385);
+VALUE(SFN_BATCH_MOST, 65536);
+VALUE(SFN_NONE, 255);
+
+VALUE(SFN_STAMP_ABSOLUTE, 0);
+VALUE(SFN_STAMP_RELATIVE, 1);
+VALUE(SFN_STAMP_NULL, 2);
+
+VALUE(SFN_TIME_OFFSET, 0);
+VALUE(SFN_FREQUENCY_OFFSET, 1);
+VALUE(SFN_POWER, 2);
+VALUE(SFN_PRIVATE, 3);
+VALUE(SFN_CELL, 4);
+VALUE(SFN_ENABLE, 5);
+VALUE(SFN_BANDWIDTH, 6);
+VALUE(SFN_PASSED, 7);
+
+/* Of the refusals the first, the last and some between; tests/header compares all of them with the proved code. */
+VALUE(SFN_REFUSED_TRANSPORT_NOT_188, 1);
+VALUE(SFN_REFUSED_COUNT_REPEATED, 12);
+VALUE(SFN_REFUSED_CRC_WRONG, 14);
+VALUE(SFN_REFUSED_OUTPUT_SHORT, 16);
+VALUE(SFN_REFUSED_PAYLOAD_SIZE_WRONG, 23);
+VALUE(SFN_REFUSED_BANDWIDTH_VALUE_RESERVED, 29);
+VALUE(SFN_REFUSED_TOO_WIDE_OR_UNFIT_STATE, 38);
+
 /* The functions once more, by types alone: another declaration than the header's is an error. */
 #ifdef __cplusplus
 extern "C" {
 #endif
 uint32_t sfn_crc(const uint8_t *, size_t);
+uint32_t sfn_packet_length(const uint8_t *, size_t);
 struct sfn_packet sfn_packet_read(const uint8_t *, size_t);
 struct sfn_written sfn_packet_write(uint8_t, uint8_t, uint8_t, uint8_t, uint32_t, const uint8_t *, size_t, uint8_t *,
                                     size_t);

@@ -51,6 +51,22 @@ fn unreadable(p: Progress, lines: &[u8]) -> Progress {
     stopped(listing)
 }
 
+// What is listed so far is written out, so that a live feed has its lines at once.
+fn shown(p: Progress, lines: &[u8]) -> Progress {
+    if !p.ok {
+        return p;
+    }
+    let listing = p.listing;
+    if !flush(lines, p.filled) {
+        return stopped(listing);
+    }
+    Progress {
+        listing,
+        filled: 0,
+        ok: true,
+    }
+}
+
 // One transport packet. Where the lines are full they are written out, and the step is taken again: what the theorem on whole
 // listings (lines, specs/Theorems) calls fed.
 fn feed(
@@ -103,6 +119,19 @@ fn feed_all(
     now
 }
 
+// What a read brought: its lines are written out before the next one.
+fn list_block(
+    p: Progress,
+    block: &[u8],
+    at: usize,
+    gathering: &mut [u8],
+    output: &mut [u8],
+    lines: &mut [u8],
+) -> Progress {
+    let fed = feed_all(p, block, at, gathering, output, lines);
+    shown(fed, lines)
+}
+
 // Reads standard input to its end. The block is a whole number of transport packets, so that where it is full no cut piece is
 // left in it. A proved loop has to end, and nothing says that the input does: it counts its turns down from a number that
 // no run uses up.
@@ -127,7 +156,7 @@ fn list_all(
             return now;
         }
         have += io::count(got, &block[have..]);
-        now = feed_all(now, &block[..have], at, gathering, output, lines);
+        now = list_block(now, &block[..have], at, gathering, output, lines);
         at = have - (have - at) % 188;
         if at == have {
             at = 0;

@@ -1,12 +1,19 @@
 -- An answer of a crate below, laid out flat, and arguments that stand apart, put together.
 use Prim.Native.Nat.{ℕ}
-use mathlib.Core.Bool.{Bool, true, false}
+use mathlib.Core.Bool.{Bool, true, false, cond}
+use mathlib.Core.List.{List}
+use lib.Dec.{eqb, ltb}
+use lib.ListN.{length}
 use lib.IntN.{ℤ, pos}
 use Rattle.functions.specs.declared.Function.{Function}
 use Rattle.functions.specs.declared.Function.the-variants.{TimeOffset, FrequencyOffset, Power, Private, Cell, Enable, Bandwidth, Passed}
 use Rattle.sfn.specs.declared.SfnFunction.{SfnFunction}
 use Rattle.packet.specs.declared.Packet.{Packet}
+use Rattle.packet.specs.Layout.{sizeOf}
+use Rattle.stamp.specs.Layout.{kindOf}
 use Rattle.stamp.specs.declared.Stamp.{Stamp}
+use Rattle.stamp.specs.declared.Kind.{Kind}
+use Rattle.stamp.specs.declared.Kind.the-variants.{Null, Relative, Absolute}
 use Rattle.stamp.specs.declared.StampRead.{StampRead}
 use Rattle.sfn.specs.declared.SfnStamp.{SfnStamp}
 use Rattle.sfn.specs.declared.SfnPacket.{SfnPacket}
@@ -22,6 +29,20 @@ packetOf p =
       stream = p .header .stream;
     }
 
+-- the length that the packet at the front of the bytes says, or 0 where they do not hold it all
+unfoldable pub lengthHeld : List ℕ → ℕ
+lengthHeld l = cond (ltb (length l) (sizeOf l)) 0 (sizeOf l)
+
+-- what a stamp is
+abbrev pub kindNumber : Kind → ℕ
+kindNumber Absolute = 0
+kindNumber Relative = 1
+kindNumber Null = 2
+
+-- the kind of a stamp that was read; with a refusal all fields are 0, and so is this
+unfoldable pub kindRead : ℕ → Stamp → ℕ
+kindRead refusal s = cond (eqb refusal 0) (kindNumber (kindOf s)) 0
+
 abbrev pub stampOf : StampRead → SfnStamp
 stampOf p =
     record {
@@ -30,6 +51,7 @@ stampOf p =
       subseconds = p .stamp .subseconds .0;
       utco = p .stamp .utco;
       bw = p .stamp .bw;
+      kind = kindRead (p .refusal) (p .stamp);
     }
 
 abbrev pub stampFrom : ℕ → ℕ → ℕ → ℕ → Stamp

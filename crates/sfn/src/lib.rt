@@ -16,6 +16,7 @@ pub use site::sfn_extra_delay;
 pub use site::sfn_mip_read;
 pub use site::sfn_mip_write;
 pub use site::sfn_walk;
+use stamp::Kind;
 use stamp::Stamp;
 use stamp::Subseconds;
 ghost use mathlib.Core.Path.{_≡_};
@@ -27,7 +28,7 @@ ghost use Rattle.carry.specs.Carry.{carryOf};
 ghost use Rattle.functions.specs.Read.{functionRead};
 ghost use Rattle.stamp.specs.Read.{readOf as stampRead};
 ghost use Rattle.stamp.specs.Write.{writeOf as stampWritten};
-ghost use Rattle.sfn.specs.Answers.{packetOf, stampOf, stampFrom, bitOf, ofKind, functionOf};
+ghost use Rattle.sfn.specs.Answers.{packetOf, lengthHeld, kindNumber, kindRead, stampOf, stampFrom, bitOf, ofKind, functionOf};
 ghost use Rattle.sfn.specs.Making.{naturalOf, offsetMade, waitingMade, powerMade, madeOf, functionWritten};
 ghost use lib.ListN.{length};
 
@@ -48,6 +49,18 @@ pub extern "C" fn sfn_crc(bytes: &[u8]) -> u32
     ensures { λ r. ⌜ r ≡ crcOf (now (bytes .entry)) ⌝ }
 {
     crc::crc(bytes)
+}
+
+// The length of the packet that the bytes begin with, or 0 where they do not hold it all.
+#[no_mangle]
+pub extern "C" fn sfn_packet_length(bytes: &[u8]) -> u32
+    ensures { λ r. ⌜ r ≡ lengthHeld (now (bytes .entry)) ⌝ }
+{
+    let size = packet::own_length(bytes, 0);
+    if bytes.len() < size {
+        return 0;
+    }
+    count_32(size)
 }
 
 #[no_mangle]
@@ -96,6 +109,28 @@ pub struct SfnStamp {
     pub subseconds: u32,
     pub utco: u16,
     pub bw: u8,
+    pub kind: u8,
+}
+
+// What a stamp is, as a number.
+fn kind_number(kind: Kind) -> u8
+    ensures { λ r. ⌜ r ≡ kindNumber kind ⌝ }
+{
+    match kind {
+        Kind::Absolute => 0,
+        Kind::Relative => 1,
+        Kind::Null => 2,
+    }
+}
+
+// What the stamp that was read is; 0 with a refusal, as all its fields are.
+fn kind_read(refusal: u32, s: Stamp) -> u8
+    ensures { λ r. ⌜ r ≡ kindRead refusal s ⌝ }
+{
+    if refusal != 0 {
+        return 0;
+    }
+    kind_number(stamp::kind_of(s))
 }
 
 #[no_mangle]
@@ -104,12 +139,14 @@ pub extern "C" fn sfn_stamp_read(payload: &[u8]) -> SfnStamp
 {
     let answer = stamp::read(payload);
     let s = answer.stamp;
+    let kind = kind_read(answer.refusal, s);
     SfnStamp {
         seconds: s.seconds,
         refusal: answer.refusal,
         subseconds: s.subseconds.0,
         utco: s.utco,
         bw: s.bw,
+        kind,
     }
 }
 

@@ -1,4 +1,5 @@
-//! What one transmitter hears in a feed of T2-MI in transport packets: the timestamps, and the functions addressed to it.
+//! What one transmitter hears in a feed of T2-MI in transport packets: the timestamps, and the functions addressed to
+//! it.
 //!
 //!     site TRANSMITTER [FILE]      the identifier in decimal or 0x..; without FILE, from standard input
 //!
@@ -10,8 +11,8 @@ use std::fs::File;
 use std::io::{self, Read, Write};
 use std::process::ExitCode;
 use wasukpelon::sfn::{
-    addressing_read, function_read, functions, packet_read, stamp_read, Function, Gathered, Kind,
-    Packet, Reader, Refusal, TRANSPORT,
+    addressing_read, function_read, functions, packet_read, stamp_read, Function, Gathered, Packet,
+    Reader, Refusal, StampKind, TRANSPORT,
 };
 
 const PID: u16 = 0x1000;
@@ -43,14 +44,14 @@ impl Tally {
 }
 
 fn print_stamp(payload: &[u8], to: &mut impl Write) -> io::Result<()> {
-    let s = match stamp_read(payload) {
-        Ok(s) => s,
+    let (s, kind) = match stamp_read(payload) {
+        Ok(read) => read,
         Err(refusal) => return writeln!(to, "stamp {refusal}"),
     };
-    let kind = match s.kind() {
-        Kind::Null => "null",
-        Kind::Relative => "relative",
-        Kind::Absolute => "absolute",
+    let kind = match kind {
+        StampKind::Absolute => "absolute",
+        StampKind::Relative => "relative",
+        StampKind::Null => "null",
     };
     let (bw, seconds, subseconds, utco) = (s.bw, s.seconds, s.subseconds, s.utco);
     writeln!(
@@ -118,7 +119,7 @@ fn read_piece(feed: &mut impl Read, piece: &mut [u8]) -> io::Result<usize> {
 }
 
 /// Goes through the feed and gives the length of a cut last piece, which is set aside.
-fn listen(
+fn hear(
     mut feed: impl Read,
     transmitter: u16,
     tally: &mut Tally,
@@ -170,7 +171,7 @@ fn identifier(text: &str) -> Option<u16> {
 fn report(feed: impl Read, transmitter: u16) -> io::Result<()> {
     let mut to = io::BufWriter::new(io::stdout().lock());
     let mut tally = Tally::default();
-    let cut = listen(io::BufReader::new(feed), transmitter, &mut tally, &mut to)?;
+    let cut = hear(io::BufReader::new(feed), transmitter, &mut tally, &mut to)?;
     print_tally(&tally, cut, &mut to)?;
     to.flush()
 }

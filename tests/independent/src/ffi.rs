@@ -45,6 +45,7 @@ mod packet_group {
 
     extern "C" {
         fn sfn_crc(bytes: *const u8, len: usize) -> u32;
+        fn sfn_packet_length(bytes: *const u8, len: usize) -> u32;
         fn sfn_packet_read(slice: *const u8, len: usize) -> Packet;
         fn sfn_packet_write(
             packet_type: u8,
@@ -63,6 +64,12 @@ mod packet_group {
         let mut bytes = Lent::new(bytes);
         let register = unsafe { sfn_crc(bytes.pointer(), bytes.len()) };
         told(register, [bytes])
+    }
+
+    pub fn packet_length(bytes: &[u8]) -> Told<u32> {
+        let mut bytes = Lent::new(bytes);
+        let length = unsafe { sfn_packet_length(bytes.pointer(), bytes.len()) };
+        told(length, [bytes])
     }
 
     pub fn packet_read(slice: &[u8]) -> Told<Packet> {

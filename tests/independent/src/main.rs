@@ -10,7 +10,7 @@ use std::time::{SystemTime, UNIX_EPOCH};
 const USAGE: &str = "usage: independent vectors
        independent compare [--seed N] [--seconds S]
        independent listing < TRANSPORT-PACKETS
-       independent compare-listing PROGRAM [--seed N] [--seconds S]";
+       independent compare-listing PROGRAM [WORD..] [--seed N] [--seconds S]";
 
 fn main() -> ExitCode {
     let arguments: Vec<String> = std::env::args().skip(1).collect();
@@ -19,9 +19,7 @@ fn main() -> ExitCode {
         ["vectors"] => Ok(vectors::text()),
         ["compare", options @ ..] => timed(options, compare::compare),
         ["listing"] => listing(),
-        ["compare-listing", program, options @ ..] => timed(options, |seed, seconds| {
-            compare::listing::compare(program, seed, seconds)
-        }),
+        ["compare-listing", words @ ..] => compare_listing(words),
         _ => Err(USAGE.to_string()),
     };
     match outcome {
@@ -42,6 +40,19 @@ fn listing() -> Result<String, String> {
     let read = std::io::stdin().lock().read_to_end(&mut input);
     read.map_err(|error| error.to_string())?;
     Ok(model::listing::text(&input))
+}
+
+/// The program is called by all words up to the first option.
+fn compare_listing(words: &[&str]) -> Result<String, String> {
+    let is_option = |word: &&str| word.starts_with("--");
+    let end = words.iter().position(is_option).unwrap_or(words.len());
+    let (program, options) = words.split_at(end);
+    if program.is_empty() {
+        return Err(USAGE.to_string());
+    }
+    timed(options, |seed, seconds| {
+        compare::listing::compare(program, seed, seconds)
+    })
 }
 
 /// A comparison with a seed, which is printed first, and a time.

@@ -89,14 +89,14 @@ count-requires c κs = search needs
 add-have : tie.Need-add-have Inv-loop μ-loop
 add-have c = search needs
 
-slice-reshare-prefix-feed-all : tie.Need-slice-reshare-prefix-feed-all Inv-loop μ-loop
-slice-reshare-prefix-feed-all c = search needs
+slice-reshare-prefix-list-block : tie.Need-slice-reshare-prefix-list-block Inv-loop μ-loop
+slice-reshare-prefix-list-block c = search needs
 
-slice-aggregate-feed-all : tie.Need-slice-aggregate-feed-all Inv-loop μ-loop
-slice-aggregate-feed-all c = sym (length-take-le _ _ (slice-reshare-prefix-feed-all (c .before)))
+slice-aggregate-list-block : tie.Need-slice-aggregate-list-block Inv-loop μ-loop
+slice-aggregate-list-block c = sym (length-take-le _ _ (slice-reshare-prefix-list-block (c .before)))
 
-feed-all-requires : tie.Need-feed-all-requires Inv-loop μ-loop
-feed-all-requires c κs = search needs
+list-block-requires : tie.Need-list-block-requires Inv-loop μ-loop
+list-block-requires c κs = search needs
 
 sub-at : tie.Need-sub-at Inv-loop μ-loop
 sub-at c = search needs
@@ -174,9 +174,9 @@ list-all-spec =
     part-count-end
     count-requires
     add-have
-    slice-reshare-prefix-feed-all
-    slice-aggregate-feed-all
-    feed-all-requires
+    slice-reshare-prefix-list-block
+    slice-aggregate-list-block
+    list-block-requires
     sub-at
     sub-at-2
     loop-less

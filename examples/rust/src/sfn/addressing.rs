@@ -6,7 +6,7 @@ use super::{accepted, raw, written, Refusal};
 pub fn addressing_read(payload: &[u8]) -> Result<&[u8], Refusal> {
     let a = raw::addressing_read(payload);
     accepted(a.refusal)?;
-    // Behind a reserved byte and the length; an accepted payload has at least these two (01, refusal 23).
+    // As the header says at `struct sfn_addressing`.
     Ok(&payload[2..2 + a.bytes as usize])
 }
 
@@ -52,16 +52,17 @@ impl<'a> Iterator for Functions<'a> {
     }
 }
 
-/// A function by its fields (01, the table of tags). Bodies that are not read stay with the caller.
+/// A function by its fields (01, the table of tags), each in the least type that holds its bits: a frequency offset has
+/// 24, `reserved` and a bandwidth have 7. Bodies that are not read stay with the caller.
 #[derive(Clone, Copy, Debug, PartialEq, Eq)]
 pub enum Function<'a> {
-    TimeOffset(i32),
+    TimeOffset(i16),
     FrequencyOffset(i32),
-    Power(i32),
+    Power(u16),
     Private(&'a [u8]),
-    Cell { id: i32, wait: bool, reserved: u8 },
+    Cell { id: u16, wait: bool, reserved: u8 },
     Enabled(&'a [u8]),
-    Bandwidth { value: i32, wait: bool },
+    Bandwidth { value: u8, wait: bool },
     Passed { tag: u8, body: &'a [u8] },
 }
 
@@ -69,33 +70,47 @@ pub enum Function<'a> {
 pub fn function_read(tag: u8, body: &[u8]) -> Result<Function<'_>, Refusal> {
     let f = raw::function_read(tag, body);
     accepted(f.refusal)?;
-    let (id, reserved, wait) = (f.value, f.reserved, f.wait == 1);
+    let (value, wait, reserved) = (f.value, f.wait == 1, f.reserved);
+    // No cast here loses a bit: the header has the range of each kind's value.
     Ok(match f.kind {
-        0 => Function::TimeOffset(f.value),
-        1 => Function::FrequencyOffset(f.value),
-        2 => Function::Power(f.value),
-        3 => Function::Private(body),
-        4 => Function::Cell { id, wait, reserved },
-        5 => Function::Enabled(body),
-        6 => Function::Bandwidth {
-            value: f.value,
-            wait,
-        },
+        raw::TIME_OFFSET => Function::TimeOffset(value as i16),
+        raw::FREQUENCY_OFFSET => Function::FrequencyOffset(value),
+        raw::POWER => Function::Power(value as u16),
+        raw::PRIVATE => Function::Private(body),
+        raw::CELL => {
+            let id = value as u16;
+            Function::Cell { id, wait, reserved }
+        }
+        raw::ENABLE => Function::Enabled(body),
+        raw::BANDWIDTH => {
+            let value = value as u8;
+            Function::Bandwidth { value, wait }
+        }
         _ => Function::Passed { tag, body },
     })
 }
 
 /// Writes a function's body, without tag and length, to the front of `out` and gives its length.
 pub fn function_write(f: Function, out: &mut [u8]) -> Result<usize, Refusal> {
-    let (kind, tag, value, wait, reserved, body): (u8, u8, i32, bool, u8, &[u8]) = match f {
-        Function::TimeOffset(value) => (0, 0, value, false, 0, &[]),
-        Function::FrequencyOffset(value) => (1, 1, value, false, 0, &[]),
-        Function::Power(value) => (2, 2, value, false, 0, &[]),
-        Function::Private(body) => (3, 3, 0, false, 0, body),
-        Function::Cell { id, wait, reserved } => (4, 4, id, wait, reserved, &[]),
-        Function::Enabled(body) => (5, 5, 0, false, 0, body),
-        Function::Bandwidth { value, wait } => (6, 6, value, wait, 0, &[]),
-        Function::Passed { tag, body } => (7, tag, 0, false, 0, body),
+    let (kind, value, body): (u8, i32, &[u8]) = match f {
+        Function::TimeOffset(value) => (raw::TIME_OFFSET, value.into(), &[]),
+        Function::FrequencyOffset(value) => (raw::FREQUENCY_OFFSET, value, &[]),
+        Function::Power(value) => (raw::POWER, value.into(), &[]),
+        Function::Private(body) => (raw::PRIVATE, 0, body),
+        Function::Cell { id, .. } => (raw::CELL, id.into(), &[]),
+        Function::Enabled(body) => (raw::ENABLE, 0, body),
+        Function::Bandwidth { value, .. } => (raw::BANDWIDTH, value.into(), &[]),
+        Function::Passed { body, .. } => (raw::PASSED, 0, body),
+    };
+    let (wait, reserved) = match f {
+        Function::Cell { wait, reserved, .. } => (wait, reserved),
+        Function::Bandwidth { wait, .. } => (wait, 0),
+        _ => (false, 0),
+    };
+    // The tag of the others is their kind.
+    let tag = match f {
+        Function::Passed { tag, .. } => tag,
+        _ => kind,
     };
     let fields = raw::Function {
         refusal: 0,

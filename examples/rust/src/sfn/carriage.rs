@@ -1,13 +1,11 @@
 //! Carriage: a batch of T2-MI packets into transport packets, and a reader that gathers them again.
 
-use super::{accepted, raw, Refusal};
+use super::{accepted, packets, raw, Packets, Refusal};
 
-/// The bytes of a transport packet.
-pub const TRANSPORT: usize = 188;
-
-/// What a reader's two buffers must have at least (01, refusals 2 and 3).
-const GATHERING: usize = 8202;
-const OUTPUT: usize = 8385;
+/// Room that is always enough to carry a batch of so many bytes, as the header says at `sfn_carry`.
+pub const fn carry_room(batch: usize) -> usize {
+    raw::TRANSPORT * (batch / 183 + 1)
+}
 
 /// What carrying gives: transport packets written, and the count for the next batch.
 #[derive(Clone, Copy, Debug, PartialEq, Eq)]
@@ -33,7 +31,7 @@ pub struct Reader {
     out: Box<[u8]>,
 }
 
-/// What one transport packet brought: packets that are now whole, and the three marks.
+/// What one transport packet brought: packets that are now whole, how many, and the three marks.
 pub struct Gathered<'a> {
     pub packets: Packets<'a>,
     pub count: usize,
@@ -49,8 +47,8 @@ impl Reader {
         accepted(s.refusal)?;
         Ok(Reader {
             state: s.reader,
-            gathering: vec![0; GATHERING].into(),
-            out: vec![0; OUTPUT].into(),
+            gathering: vec![0; raw::GATHERING].into(),
+            out: vec![0; raw::OUTPUT].into(),
         })
     }
 
@@ -60,36 +58,11 @@ impl Reader {
         accepted(g.refusal)?;
         self.state = g.reader;
         Ok(Gathered {
-            packets: Packets {
-                rest: &self.out[..g.bytes as usize],
-            },
+            packets: packets(&self.out[..g.bytes as usize]),
             count: g.packets as usize,
             loss: g.loss == 1,
             misfit: g.misfit == 1,
             crc: g.crc == 1,
         })
-    }
-}
-
-/// The packets handed out by one call, each as a slice of the reader's output.
-#[derive(Clone, Copy)]
-pub struct Packets<'a> {
-    rest: &'a [u8],
-}
-
-/// The length that a packet gives itself: 10 bytes and its payload_len, rounded up to bytes.
-fn own_length(packet: &[u8]) -> Option<usize> {
-    let bits = packet.get(4..6)?;
-    Some(10 + (usize::from(bits[0]) * 256 + usize::from(bits[1])).div_ceil(8))
-}
-
-impl<'a> Iterator for Packets<'a> {
-    type Item = &'a [u8];
-
-    fn next(&mut self) -> Option<&'a [u8]> {
-        let length = own_length(self.rest)?;
-        let (packet, rest) = self.rest.split_at_checked(length)?;
-        self.rest = rest;
-        Some(packet)
     }
 }

@@ -27,6 +27,7 @@ pub fn mip_read(packet: &[u8]) -> Result<Mip<'_>, Refusal> {
         stamp: m.stamp,
         delay: m.delay,
         tps: m.tps,
+        // As the header says at `struct sfn_mip`.
         addressing: &packet[21..21 + m.addressing as usize],
     })
 }
@@ -52,12 +53,12 @@ fn steps(answer: raw::Time) -> Result<u32, Refusal> {
     Ok(answer.steps)
 }
 
-/// When a mega-frame leaves the antenna.
-pub fn emission(stamp: u32, delay: u32, offset: i32) -> Result<u32, Refusal> {
-    steps(raw::emission(stamp, delay, offset))
+/// When a mega-frame leaves the antenna. The offset is a time offset's, so it is never refused (38).
+pub fn emission(stamp: u32, delay: u32, offset: i16) -> Result<u32, Refusal> {
+    steps(raw::emission(stamp, delay, offset.into()))
 }
 
-/// How long a site holds back what it received at `reception`.
-pub fn extra_delay(stamp: u32, delay: u32, offset: i32, reception: u32) -> Result<u32, Refusal> {
-    steps(raw::extra_delay(stamp, delay, offset, reception))
+/// How long a site holds back what it received at `reception`. Nor is the offset refused here.
+pub fn extra_delay(stamp: u32, delay: u32, offset: i16, reception: u32) -> Result<u32, Refusal> {
+    steps(raw::extra_delay(stamp, delay, offset.into(), reception))
 }

@@ -2,6 +2,12 @@
 //!
 //! One file for each part of the header. `raw` has the declarations and the only `unsafe`; what each call takes, gives
 //! and refuses is written in `include/sfn.h`.
+//!
+//! A field has the least type that holds its bits. So Rust cannot say some of what C is refused for with 38: over 16
+//! bits of payload_len, time offset, power or cell; a flag over 1; a kind over 7, or a tag or bytes that a kind does
+//! not have; a place that a walk does not come to; a reader's state that no call gave. Fields that fill no Rust type
+//! (frame, stream, seconds, subseconds, utco, frequency, reserved, bandwidth, count, future, the times of a MIP), data
+//! that is too long and a tag from 0 to 6 that is to be passed through are refused as in C.
 
 mod addressing;
 mod carriage;
@@ -9,30 +15,19 @@ mod mip;
 mod packet;
 #[allow(unsafe_code)]
 mod raw;
+mod refusal;
 mod stamp;
 
 pub use addressing::{
     addressing_read, addressing_write, function_read, function_write, functions, Function,
     Functions,
 };
-pub use carriage::{carry, Carried, Gathered, Packets, Reader, TRANSPORT};
+pub use carriage::{carry, carry_room, Carried, Gathered, Reader};
 pub use mip::{emission, extra_delay, mip_read, mip_write, Mip};
-pub use packet::{packet_read, packet_write, Header, Packet};
-pub use stamp::{stamp_read, stamp_write, Kind, Stamp};
-
-use std::fmt;
-
-/// Why a call did nothing: the number of document 01.
-#[derive(Clone, Copy, Debug, PartialEq, Eq)]
-pub struct Refusal(pub u32);
-
-impl fmt::Display for Refusal {
-    fn fmt(&self, f: &mut fmt::Formatter) -> fmt::Result {
-        write!(f, "refused {}", self.0)
-    }
-}
-
-impl std::error::Error for Refusal {}
+pub use packet::{packet_length, packet_read, packet_write, packets, Header, Packet, Packets};
+pub use raw::{BATCH_MOST, PACKET_MOST, TRANSPORT};
+pub use refusal::Refusal;
+pub use stamp::{stamp_read, stamp_write, Stamp, StampKind};
 
 /// An answer's first field as Rust has it.
 fn accepted(refusal: u32) -> Result<(), Refusal> {

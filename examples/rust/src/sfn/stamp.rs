@@ -11,35 +11,34 @@ pub struct Stamp {
     pub utco: u16,
 }
 
-/// What a stamp is meant as.
+/// What a stamp is meant as. It follows from the fields: it is told when a stamp is read, and not asked for when one is
+/// written.
 #[derive(Clone, Copy, Debug, PartialEq, Eq)]
-pub enum Kind {
-    Null,
-    Relative,
+pub enum StampKind {
     Absolute,
+    Relative,
+    Null,
 }
 
-impl Stamp {
-    /// All ones in the three fields is null; otherwise seconds of 0 are relative (01).
-    pub fn kind(&self) -> Kind {
-        match (self.seconds, self.subseconds, self.utco) {
-            (0xff_ffff_ffff, 0x7ff_ffff, 0x1fff) => Kind::Null,
-            (0, _, _) => Kind::Relative,
-            _ => Kind::Absolute,
-        }
+fn kind_of(number: u8) -> StampKind {
+    match number {
+        raw::STAMP_ABSOLUTE => StampKind::Absolute,
+        raw::STAMP_RELATIVE => StampKind::Relative,
+        raw::STAMP_NULL.. => StampKind::Null, // the header has none above it
     }
 }
 
 /// Reads a payload of type 0x20.
-pub fn stamp_read(payload: &[u8]) -> Result<Stamp, Refusal> {
+pub fn stamp_read(payload: &[u8]) -> Result<(Stamp, StampKind), Refusal> {
     let s = raw::stamp_read(payload);
     accepted(s.refusal)?;
-    Ok(Stamp {
+    let stamp = Stamp {
         bw: s.bw,
         seconds: s.seconds,
         subseconds: s.subseconds,
         utco: s.utco,
-    })
+    };
+    Ok((stamp, kind_of(s.kind)))
 }
 
 /// Writes a payload of type 0x20, 11 bytes, to the front of `out`.

@@ -309,7 +309,8 @@ fn coming(prng: &mut Prng, packet: &[u8], waiting: usize, size: usize) -> Vec<u8
     data
 }
 
-/// A waiting packet and what comes of it: `before` bytes come before a start, or without one; the packet needs `needed` more.
+/// A waiting packet and what comes of it: `before` bytes come before a start, or
+/// without one; the packet needs `needed` more.
 #[derive(Clone, Copy)]
 struct Ending {
     before: usize,

@@ -20,8 +20,9 @@ const PID: u16 = 0x1000;
 /// What must each be met in a run.
 const WANTED: [&str; 4] = ["refused 20", "refused 21", "refused 22", "gaps 1\n"];
 
-/// Runs the program on inputs for so many seconds; gives how many there were.
-pub fn compare(program: &str, seed: u64, seconds: u64) -> Result<String, String> {
+/// Runs the program, which is called by these words, on inputs for so many
+/// seconds; gives how many there were.
+pub fn compare(program: &[&str], seed: u64, seconds: u64) -> Result<String, String> {
     let mut prng = Prng::new(seed);
     let until = Instant::now() + Duration::from_secs(seconds);
     let mut met = [0; WANTED.len()];
@@ -45,7 +46,7 @@ pub fn compare(program: &str, seed: u64, seconds: u64) -> Result<String, String>
     }
 }
 
-fn one_run(program: &str, input: &[u8], expected: &str) -> Outcome {
+fn one_run(program: &[&str], input: &[u8], expected: &str) -> Outcome {
     let (succeeded, printed) = run(program, input)?;
     if succeeded && printed == expected.as_bytes() {
         return Ok(());
@@ -58,9 +59,11 @@ fn one_run(program: &str, input: &[u8], expected: &str) -> Outcome {
 }
 
 /// Whether the program ended well, and what it printed.
-fn run(program: &str, input: &[u8]) -> Result<(bool, Vec<u8>), String> {
-    let fault = |error: std::io::Error| format!("{program}: {error}");
-    let mut child = Command::new(program)
+fn run(program: &[&str], input: &[u8]) -> Result<(bool, Vec<u8>), String> {
+    let fault = |error: std::io::Error| format!("{}: {error}", program.join(" "));
+    let (name, words) = program.split_first().ok_or("no program to run")?;
+    let mut child = Command::new(name)
+        .args(words)
         .stdin(Stdio::piped())
         .stdout(Stdio::piped())
         .spawn()

@@ -40,7 +40,7 @@ const GROUPS: &[Group] = &[
     #[cfg(feature = "packet")]
     Group {
         name: "packet",
-        operations: &["crc", "packet_read", "packet_write"],
+        operations: &["crc", "packet_length", "packet_read", "packet_write"],
         run: packet::run,
     },
     #[cfg(feature = "stamp")]

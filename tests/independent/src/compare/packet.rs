@@ -12,6 +12,8 @@ use std::time::Instant;
 pub fn run(session: &mut Session, until: Instant) -> Outcome {
     registers(session)?;
     short_slices(session)?;
+    every_payload_len(session)?;
+    packets_back_to_back(session)?;
     every_type(session)?;
     every_single_flip(session)?;
     every_header_bit(session)?;
@@ -22,6 +24,7 @@ pub fn run(session: &mut Session, until: Instant) -> Outcome {
     while !over(until) {
         for _ in 0..50 {
             any_register(session)?;
+            any_lengths(session)?;
             any_reading(session)?;
             any_writing(session)?;
         }
@@ -34,7 +37,22 @@ fn register(session: &mut Session, bytes: &[u8]) -> Outcome {
     session.judge("crc", model, ffi::crc(bytes), || hex("bytes", bytes))
 }
 
+fn length(session: &mut Session, bytes: &[u8]) -> Outcome {
+    let answer = packet::length(bytes);
+    let facet = match answer as usize {
+        0 => "cut",
+        whole if whole == bytes.len() => "alone",
+        _ => "behind",
+    };
+    session.note("packet_length", facet);
+    let model = Told::expected(answer, &[bytes]);
+    let library = ffi::packet_length(bytes);
+    session.judge("packet_length", model, library, || hex("bytes", bytes))
+}
+
+/// Whatever is read, good or damaged, is asked for its length too.
 fn read(session: &mut Session, slice: &[u8]) -> Outcome {
+    length(session, slice)?;
     let model = Told::expected(packet::read(slice), &[slice]);
     let library = ffi::packet_read(slice);
     session.judge("packet_read", model, library, || hex("slice", slice))
@@ -112,6 +130,36 @@ fn short_slices(session: &mut Session) -> Outcome {
         read(session, &inputs::repaired(&vec![0x00; len]))?;
         read(session, &whole[..len])?;
         read(session, &inputs::repaired(&whole[..len]))?;
+    }
+    Ok(())
+}
+
+/// Each payload_len that there is, in bytes that end a byte before its packet
+/// does, with it, and a byte behind.
+fn every_payload_len(session: &mut Session) -> Outcome {
+    let mut bytes = session.prng.bytes(packet::LONGEST + 1);
+    for said in 0..=0xFFFF_u16 {
+        bytes[4..6].copy_from_slice(&said.to_be_bytes());
+        let own = packet::total(usize::from(said));
+        for len in own - 1..=own + 1 {
+            length(session, &bytes[..len])?;
+        }
+    }
+    Ok(())
+}
+
+/// Two good packets, cut at each place near the beginning and around both ends.
+fn packets_back_to_back(session: &mut Session) -> Outcome {
+    for bits in BITS {
+        let first = inputs::packet(&mut session.prng, bits);
+        let second = inputs::packet(&mut session.prng, 20);
+        let both = [&first[..], &second[..]].concat();
+        let ends = [first.len(), both.len()];
+        let around = ends.into_iter().flat_map(|end| end - 9..=end + 9);
+        for len in (0..=40).chain(around) {
+            length(session, &both[..len.min(both.len())])?;
+        }
+        length(session, &second)?;
     }
     Ok(())
 }
@@ -231,6 +279,31 @@ fn any_register(session: &mut Session) -> Outcome {
     };
     let bytes = session.prng.bytes(len);
     register(session, &bytes)
+}
+
+/// Some packets back to back, damaged or cut now and then: the length of each, as
+/// a caller goes from one to the next.
+fn any_lengths(session: &mut Session) -> Outcome {
+    let prng = &mut session.prng;
+    let mut bytes = Vec::new();
+    for _ in 0..prng.between(1, 4) {
+        let bits = inputs::any_bits(prng);
+        bytes.extend(inputs::packet(prng, bits));
+    }
+    for _ in 0..prng.below(3) {
+        inputs::flip_any_bit(prng, &mut bytes);
+    }
+    if prng.one_in(3) {
+        inputs::change_length(prng, &mut bytes);
+    }
+    let mut rest = &bytes[..];
+    loop {
+        length(session, rest)?;
+        match packet::length(rest) as usize {
+            0 => return Ok(()),
+            own => rest = &rest[own..],
+        }
+    }
 }
 
 fn any_reading(session: &mut Session) -> Outcome {

@@ -201,7 +201,10 @@ fn any_fields(prng: &mut Prng) -> Fields {
     let second = stamp::second(bw) as usize;
     Fields {
         bw,
-        seconds: prng.number() & NULL_SECONDS,
+        seconds: match prng.below(8) {
+            0 => 0,
+            _ => prng.number() & NULL_SECONDS,
+        },
         subseconds: match prng.below(4) {
             0 => (second - 2 + prng.below(4)) as u32,
             _ => prng.below(second) as u32,

@@ -14,7 +14,7 @@ pub trait Counted {
     }
 }
 
-/// The register has no refusal.
+/// The register and the length of a packet have no refusal.
 impl Counted for u32 {
     fn refusal(&self) -> u32 {
         0
@@ -31,7 +31,23 @@ macro_rules! counted_by_refusal_alone {
     };
 }
 
-counted_by_refusal_alone!(Written, Packet, Started, Stamp, Addressing, Mip, Time, Carried);
+counted_by_refusal_alone!(Written, Packet, Started, Addressing, Mip, Time, Carried);
+
+/// By the numbers of `sfn.h`.
+const STAMPS: [&str; 3] = ["absolute", "relative", "null"];
+
+impl Counted for Stamp {
+    fn refusal(&self) -> u32 {
+        self.refusal
+    }
+
+    fn facets(&self) -> Vec<&'static str> {
+        match self.refusal {
+            0 => vec![STAMPS[usize::from(self.kind)]],
+            _ => vec![],
+        }
+    }
+}
 
 impl Counted for Walked {
     fn refusal(&self) -> u32 {
@@ -94,9 +110,12 @@ impl Counted for Gathered {
     }
 }
 
-/// The facets that each operation must show at least once. For the walk, `long`
-/// and `place` are the two causes of 38.
-const FACETS: [(&str, &[&str]); 3] = [
+/// The facets that each operation must show at least once. A packet is not whole
+/// (`cut`), alone, or other bytes are `behind` it. For the walk, `long` and
+/// `place` are the two causes of 38.
+const FACETS: [(&str, &[&str]); 5] = [
+    ("packet_length", &["cut", "alone", "behind"]),
+    ("stamp_read", &STAMPS),
     ("walk", &["given", "none", "long", "place"]),
     ("function_read", &KINDS),
     (
@@ -197,6 +216,28 @@ mod tests {
         );
         let unseen = "UNSEEN in packet_write: 0\nUNSEEN in packet_write: 19\n";
         assert_eq!(tally.unseen("packet_write"), unseen);
+    }
+
+    /// A run in which no stamp was relative has not compared that kind.
+    #[test]
+    fn a_kind_that_never_came_is_told() {
+        let mut tally = Tally::default();
+        for kind in [0, 2] {
+            let stamp = Stamp {
+                kind,
+                ..Stamp::default()
+            };
+            tally.count("stamp_read", &stamp);
+        }
+        for refusal in [23, 20, 24, 25] {
+            let stamp = Stamp {
+                refusal,
+                ..Stamp::default()
+            };
+            tally.count("stamp_read", &stamp);
+        }
+        let unseen = "UNSEEN in stamp_read: relative\n";
+        assert_eq!(tally.unseen("stamp_read"), unseen);
     }
 
     #[test]

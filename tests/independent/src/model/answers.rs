@@ -73,6 +73,7 @@ pub struct Stamp {
     pub subseconds: u32,
     pub utco: u16,
     pub bw: u8,
+    pub kind: u8,
 }
 
 /// `struct sfn_addressing`.
@@ -133,7 +134,7 @@ pub struct Time {
 #[cfg(test)]
 mod tests {
     use super::*;
-    use std::mem::size_of;
+    use std::mem::{offset_of, size_of};
 
     /// Counted by hand from `sfn.h` by C's rules of alignment.
     #[test]
@@ -150,5 +151,12 @@ mod tests {
         assert_eq!(size_of::<Function>(), 12);
         assert_eq!(size_of::<Mip>(), 28);
         assert_eq!(size_of::<Time>(), 8);
+    }
+
+    /// The size is the same without it: behind `seconds` (8), two fields of four,
+    /// `utco` (2) and `bw` (1).
+    #[test]
+    fn the_kind_of_a_stamp_fills_a_gap() {
+        assert_eq!(offset_of!(Stamp, kind), 19);
     }
 }

@@ -31,6 +31,15 @@ pub fn own_length(bytes: &[u8]) -> usize {
     total(payload_len(bytes))
 }
 
+/// The own length of the packet at the front of these bytes, of which nothing
+/// else is judged; 0 where they do not hold all of it (`sfn_packet_length`).
+pub fn length(bytes: &[u8]) -> u32 {
+    if bytes.len() < HEADER || bytes.len() < own_length(bytes) {
+        return 0;
+    }
+    own_length(bytes) as u32
+}
+
 /// packet_count: from 255 on to 0.
 pub fn next_count(count: u8) -> u8 {
     count.wrapping_add(1)
@@ -189,6 +198,27 @@ mod tests {
     const NINE_ONES: [u8; 12] = [
         0x30, 0xFF, 0xF0, 0x07, 0x00, 0x09, 0xFF, 0x80, 0xEF, 0xFE, 0x6F, 0xF9,
     ];
+
+    /// Whole, cut at each place, with a byte behind it, and with everything but
+    /// payload_len (the fifth and sixth byte) turned over.
+    #[test]
+    fn length_of_the_hand_made_packet() {
+        assert_eq!(length(&NINE_ONES), 12);
+        for len in 0..12 {
+            assert_eq!(length(&NINE_ONES[..len]), 0, "{len}");
+        }
+        assert_eq!(length(&[&NINE_ONES[..], &[0]].concat()), 12);
+        let mut turned = NINE_ONES.map(|byte| !byte);
+        turned[4..6].copy_from_slice(&NINE_ONES[4..6]);
+        assert_eq!(length(&turned), 12);
+    }
+
+    /// The longest: all ones in payload_len.
+    #[test]
+    fn length_of_the_longest() {
+        assert_eq!(length(&[0xFF; LONGEST]), 8_202);
+        assert_eq!(length(&[0xFF; LONGEST - 1]), 0);
+    }
 
     #[test]
     fn hand_made_packet_is_read() {

@@ -4,7 +4,7 @@
 //! the comparison, which fails where one of them was never seen.
 
 /// An operation and the numbers of its list in 01, in the order of the list.
-pub const LISTS: [(&str, &[u32]); 17] = [
+pub const LISTS: [(&str, &[u32]); 18] = [
     ("packet_read", &[18, 19, 14, 20, 21, 22]),
     ("packet_write", &[21, 38, 19, 22, 16]),
     ("stamp_read", &[23, 20, 24, 25]),
@@ -25,6 +25,7 @@ pub const LISTS: [(&str, &[u32]); 17] = [
     ("start", &[4]),
     ("gather", &[38, 1, 2, 3, 5, 6, 7, 8, 9, 10, 11, 12]),
     ("crc", &[]),
+    ("packet_length", &[]),
 ];
 
 /// The numbers of one operation.

@@ -15,6 +15,11 @@ pub const NULL_SECONDS: u64 = (1 << 40) - 1;
 pub const NULL_SUBSECONDS: u32 = (1 << 27) - 1;
 pub const NULL_UTCO: u16 = (1 << 13) - 1;
 
+/// The kinds of `sfn.h`.
+pub const ABSOLUTE: u8 = 0;
+pub const RELATIVE: u8 = 1;
+pub const NULL: u8 = 2;
+
 /// The subsecond units of a whole second.
 pub fn second(bw: u8) -> u32 {
     UNITS[usize::from(bw)] * 1_000_000
@@ -23,6 +28,18 @@ pub fn second(bw: u8) -> u32 {
 /// Null is a matter of these three fields; bw still tells the bandwidth.
 fn is_null(seconds: u64, subseconds: u32, utco: u16) -> bool {
     seconds == NULL_SECONDS && subseconds == NULL_SUBSECONDS && utco == NULL_UTCO
+}
+
+/// Seconds 0 marks a relative stamp (002, clause 5.2.7); the null stamp has other
+/// seconds.
+fn kind(seconds: u64, subseconds: u32, utco: u16) -> u8 {
+    if is_null(seconds, subseconds, utco) {
+        return NULL;
+    }
+    if seconds == 0 {
+        return RELATIVE;
+    }
+    ABSOLUTE
 }
 
 /// 25: a relative stamp (seconds 0) is judged like any other.
@@ -56,6 +73,7 @@ pub fn read(payload: &[u8]) -> Stamp {
         subseconds,
         utco,
         bw,
+        kind: kind(seconds, subseconds, utco),
     }
 }
 
@@ -129,6 +147,7 @@ mod tests {
             subseconds: 63_999_999,
             utco: 2,
             bw: 4,
+            kind: 0,
         };
         assert_eq!(read(&LAST_UNIT), expected);
         let (written, out) = write(4, 1, 63_999_999, 2, &[0xAA; 12]);
@@ -170,7 +189,8 @@ mod tests {
             let mut payload = [0xFF; 11];
             payload[0] = bw;
             let stamp = read(&payload);
-            assert_eq!(stamp.refusal, if bw > 5 { 24 } else { 0 });
+            let expected = if bw > 5 { (24, 0) } else { (0, 2) };
+            assert_eq!((stamp.refusal, stamp.kind), expected);
             let (written, _) = write(bw, NULL_SECONDS, NULL_SUBSECONDS, NULL_UTCO, &payload);
             assert_eq!(written.refusal, stamp.refusal);
         }
@@ -181,7 +201,26 @@ mod tests {
         let mut payload = [0xFF; 11];
         payload[0] = 4;
         payload[10] = 0xFE;
-        assert_eq!(read(&payload).refusal, 25);
+        assert_eq!((read(&payload).refusal, read(&payload).kind), (25, 0));
+    }
+
+    /// Seconds all ones alone do not make a stamp null.
+    #[test]
+    fn the_last_second_is_absolute() {
+        let payload = [4, 0xFF, 0xFF, 0xFF, 0xFF, 0xFF, 0, 0, 0, 0x1F, 0xFF];
+        let stamp = read(&payload);
+        assert_eq!((stamp.refusal, stamp.kind), (0, 0));
+        assert_eq!((stamp.subseconds, stamp.utco), (0, NULL_UTCO));
+    }
+
+    /// The same stamp at second 0, and refused for a reserved bit.
+    #[test]
+    fn a_relative_stamp() {
+        let mut payload = LAST_UNIT;
+        payload[5] = 0;
+        assert_eq!((read(&payload).seconds, read(&payload).kind), (0, 1));
+        payload[0] |= 0x80;
+        assert_eq!((read(&payload).refusal, read(&payload).kind), (20, 0));
     }
 
     #[test]

@@ -1,6 +1,6 @@
 //! The structs of `include/sfn.h`, field by field.
 
-use std::mem::size_of;
+use std::mem::{offset_of, size_of};
 
 #[repr(C)]
 pub struct Written {
@@ -58,6 +58,7 @@ pub struct Stamp {
     pub subseconds: u32,
     pub utco: u16,
     pub bw: u8,
+    pub kind: u8,
 }
 
 #[repr(C)]
@@ -111,4 +112,5 @@ const _: () = {
     assert!(size_of::<Reader>() == 8 && size_of::<Started>() == 12 && size_of::<Gathered>() == 24);
     assert!(size_of::<Stamp>() == 24 && size_of::<Addressing>() == 8 && size_of::<Walked>() == 20);
     assert!(size_of::<Function>() == 12 && size_of::<Mip>() == 28 && size_of::<Time>() == 8);
+    assert!(offset_of!(Stamp, kind) == 19); // its size is the same without it
 };

@@ -1,14 +1,17 @@
 //! `include/sfn.h` as it stands, and a safe function over each of its own. The only `unsafe` of this crate is here.
 //!
-//! Why it is sound: a slice's pointer is never null and is good for the slice's length; a `&mut` slice overlaps nothing;
-//! the library takes any bytes, keeps no pointer, and answers with plain numbers.
+//! Why it is sound: a slice's pointer is never null and is good for the slice's length; a `&mut` slice overlaps
+//! nothing; the library takes any bytes, keeps no pointer, and answers with plain numbers.
 
 mod answers;
+mod constants;
 
 pub use answers::*;
+pub use constants::*;
 
 extern "C" {
     fn sfn_crc(bytes: *const u8, len: usize) -> u32;
+    fn sfn_packet_length(bytes: *const u8, len: usize) -> u32;
     fn sfn_packet_read(slice: *const u8, len: usize) -> Packet;
     fn sfn_packet_write(
         kind: u8,
@@ -83,6 +86,10 @@ extern "C" {
 
 pub fn crc(bytes: &[u8]) -> u32 {
     unsafe { sfn_crc(bytes.as_ptr(), bytes.len()) }
+}
+
+pub fn packet_length(bytes: &[u8]) -> u32 {
+    unsafe { sfn_packet_length(bytes.as_ptr(), bytes.len()) }
 }
 
 pub fn packet_read(slice: &[u8]) -> Packet {
