@@ -1,10 +1,10 @@
 -- A format's two round trips, over any list of widths: packing and unpacking undo each other. A format in two halves is the
 -- two formats.
 -- Assumes nothing.
-use mathlib.Core.Path.{_≡_, refl, sym, ap, ap₂, _∙_, subst}
-use mathlib.Core.Bool.{Bool, true, false, cond}
+use mathlib.Core.Path.{_≡_, refl, sym, ap, ap₂, _∙_}
+use mathlib.Core.Bool.{true, false}
 use mathlib.Core.List.{List, [], _∷_, _++_}
-use Prim.Native.Nat.{ℕ, zero, suc, _+_, _-_, _*_, _/_, _%_, _^_, _≤_, _<_}
+use Prim.Native.Nat.{ℕ, suc, _+_, _-_, _*_, _/_, _%_, _^_, _<_}
 use native.Mathlib.Nat.{zero-add, add-assoc, add-mul, mul-assoc, zero-mul, mod-lt, mod-mod, mod-one, mod-eq-of-lt, add-comm}
 use lib.Arith.{digits-lt}
 use lib.Dec.{ltb, lit<}

@@ -2,16 +2,14 @@
 -- Assumes nothing.
 use mathlib.Core.Path.{_≡_, refl, sym, ap, ap₂, _∙_}
 use mathlib.Core.List.{List, [], _∷_, _++_}
-use Prim.Native.Nat.{ℕ, zero, suc, _+_, _-_, _*_, _/_, _%_, _^_, _≤_, _<_}
-use native.Mathlib.Nat.{add-zero, zero-add, suc-add, add-assoc, mul-assoc, add-mul, div-one, zero-mul, mod-eq-of-lt, not-suc-le-zero}
-use native.Mathlib.Numerals.{add-one}
+use Prim.Native.Nat.{ℕ, zero, suc, _+_, _-_, _*_, _/_, _%_, _^_, _<_}
+use native.Mathlib.Nat.{zero-add, add-assoc, mul-assoc, add-mul, zero-mul, mod-eq-of-lt, not-suc-le-zero}
 use native.Mathlib.Omega.{arith}
 use lib.Dec.{lit<}
-use lib.ListN.{length, getD, take, drop, replicate, length-replicate, length-append, length-take, length-drop, List·getD-eq-default, List·getD-append}
-use lib.Pow.{pow-add, pow-mono, shr-shr}
-use lib.Seq.{getD-take, getD-drop, getD-append-add}
-use Rattle.fields.proofs.Cases.{cases}
-use Rattle.fields.proofs.FormatLaws.{pack-lt, pack-unpack-mod, pack-unpack, unpack-mod, unpack-pack, length-unpack, unpack-fit}
+use lib.ListN.{length, getD, take, drop, replicate, length-replicate, length-append}
+use lib.Pow.{pow-add}
+use lib.Seq.{getD-drop}
+use Rattle.fields.proofs.FormatLaws.{pack-lt, pack-unpack-mod, unpack-pack, length-unpack, unpack-fit}
 use Rattle.fields.specs.Formats.{span, pack, unpack, Fit}
 use Rattle.fields.specs.Numbers.{Bytes, number, bytes}
 
@@ -81,10 +79,6 @@ number-bytes-mod k n =
 pub number-bytes : (k n : ℕ) → n < 2 ^ (8 * k) → number (bytes k n) ≡ n
 number-bytes k n h = number-bytes-mod k n ∙ mod-eq-of-lt h
 
--- two lists of bytes as long as each other with one number are one list
-pub number-injective : (l m : List ℕ) → Bytes l → Bytes m → length l ≡ length m → number l ≡ number m → l ≡ m
-number-injective l m hl hm e n = sym (bytes-number l hl) ∙ ap₂ bytes e n ∙ bytes-number m hm
-
 -- ---- one byte more, and lists after each other
 
 pub number-nil : number [] ≡ 0
@@ -120,11 +114,6 @@ number-snoc l b = number-append l (b ∷ []) ∙ ap (λ (x : ℕ). number l * 25
 pub bytes-cons : (k n : ℕ) → bytes (suc k) n ≡ n / 2 ^ (8 * k) % 256 ∷ bytes k n
 unfolding bytes unpack
 bytes-cons k n = ap (λ (m : ℕ). n / 2 ^ m % 256 ∷ unpack (replicate k 8) n) (span-bytes k)
-
--- bits above the bytes are not looked at
-pub bytes-mod : (k n : ℕ) → bytes k (n % 2 ^ (8 * k)) ≡ bytes k n
-unfolding bytes
-bytes-mod k n = ap (λ (m : ℕ). unpack (replicate k 8) (n % 2 ^ m)) (sym (span-bytes k)) ∙ unpack-mod (replicate k 8) n
 
 -- the byte at i of k
 pub getD-bytes : (k n i : ℕ) → i < k → getD (bytes k n) i 0 ≡ n / 2 ^ (8 * (k - 1 - i)) % 256

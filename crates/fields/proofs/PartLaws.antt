@@ -6,14 +6,14 @@ use Prim.Native.Nat.{ℕ, zero, suc, _+_, _-_, _*_, _^_, _≤_, _<_}
 use native.Mathlib.Nat.{add-zero, zero-add, suc-add, add-assoc}
 use native.Mathlib.Numerals.{add-one}
 use native.Mathlib.Omega.{arith}
-use lib.ListN.{length, getD, set, take, drop, length-append, length-drop, take-append-drop, drop-of-length-le}
-use lib.Seq.{length-take-le, take-append-le, take-at, drop-at, take-take, take-add, drop-drop, drop-append-add, take-suc, drop-cons, getD-take, getD-drop, set-at, take-nil, take-length}
+use lib.ListN.{length, getD, set, replicate, take, drop, length-append, length-drop, take-append-drop, drop-of-length-le}
+use lib.Seq.{length-take-le, take-at, drop-at, take-take, take-add, drop-drop, drop-append-add, take-suc, drop-cons, getD-take, getD-drop, set-at, take-nil, take-length}
 use borrow.Author.Tests.{le-leb}
 use Rattle.fields.proofs.NumberLaws.{bytes-take, bytes-drop, number-append, number-lt}
 use Rattle.fields.proofs.FormatLaws.{unpack-halves}
 use Rattle.fields.specs.Formats.{span, unpack}
 use Rattle.fields.specs.Numbers.{Bytes, number, bytes}
-use Rattle.fields.specs.Parts.{part, overlay, inside, numberAt, storedAt, copiedTo}
+use Rattle.fields.specs.Parts.{part, overlay, numberAt, storedAt, copiedTo, filledAt}
 
 -- ---- parts
 
@@ -132,11 +132,6 @@ unfolding overlay
 take-overlay at p l h =
     rw (← append-assoc) (take-at (take at l ++ p) (drop (at + length p) l) (at + length p) (length-head at p l h))
 
-pub take-under : (at : ℕ) (p l : List ℕ) (n : ℕ) → at ≤ length l → n ≤ at → take n (overlay at p l) ≡ take n l
-unfolding overlay
-take-under at p l n h k =
-    take-append-le n (take at l) (p ++ drop (at + length p) l) (rw (length-take-le at l h) k) ∙ take-take n at l k
-
 pub drop-overlay : (at : ℕ) (p l : List ℕ) (n : ℕ) → at ≤ length l → drop (at + length p + n) (overlay at p l) ≡ drop (at + length p + n) l
 unfolding overlay
 drop-overlay at p l n h =
@@ -149,12 +144,6 @@ pub overlay-next : (at : ℕ) (p q l : List ℕ) (next : ℕ) → at + length p 
 overlay-next at p q l next e h =
     rw (← e, overlay-is (at + length p) q (overlay at p l), take-overlay at p l h, drop-overlay at p l (length q) h, overlay-is at (p ++ q) l, length-append p q, ← add-assoc at (length p) (length q))
     (simp append-assoc)
-
--- a list laid over one that is as long: the first is gone
-pub overlay-again : (at : ℕ) (p q l : List ℕ) → at ≤ length l → length p ≡ length q → overlay at q (overlay at p l) ≡ overlay at q l
-overlay-again at p q l h e =
-    rw (overlay-is at q (overlay at p l), overlay-is at q l, take-under at p l at h (omega arith), ← e)
-    (ap (λ (m : List ℕ). take at l ++ (q ++ m)) (rw (add-zero) at (drop-overlay at p l 0 h)))
 
 -- a store behind p
 pub set-overlay : (at : ℕ) (p l : List ℕ) (x : ℕ) → at + length p < length l → set (overlay at p l) (at + length p) x ≡ overlay at (p ++ (x ∷ [])) l
@@ -169,30 +158,6 @@ overlay-more at i p l h k =
     let e : length (take i p) ≡ i = length-take-le i p (omega arith) in
     (rw e at (set-overlay at (take i p) l (getD p i 0) (rw e k)))
     ∙ ap (λ (q : List ℕ). overlay at q l) (sym (take-suc p i 0 h) ∙ ap (λ (m : ℕ). take m p) (sym (add-one i)))
-
--- what was laid is read back
-pub part-overlay : (at : ℕ) (p l : List ℕ) → at ≤ length l → part at (length p) (overlay at p l) ≡ p
-unfolding part
-part-overlay at p l h =
-    rw (overlay-is at p l, drop-at (take at l) (p ++ drop (at + length p) l) at (length-take-le at l h))
-    (take-at p (drop (at + length p) l) (length p) refl)
-
--- reads before, in and behind p
-pub getD-before : (at : ℕ) (p l : List ℕ) (i : ℕ) → at ≤ length l → i < at → getD (overlay at p l) i 0 ≡ getD l i 0
-getD-before at p l i h k =
-    sym (getD-take at (overlay at p l) i 0 k)
-    ∙ ap (λ (m : List ℕ). getD m i 0) (take-under at p l at h (omega arith))
-    ∙ getD-take at l i 0 k
-
-pub getD-in : (at : ℕ) (p l : List ℕ) (i : ℕ) → at ≤ length l → i < length p → getD (overlay at p l) (at + i) 0 ≡ getD p i 0
-getD-in at p l i h k =
-    sym (getD-part at (length p) (overlay at p l) i k) ∙ ap (λ (m : List ℕ). getD m i 0) (part-overlay at p l h)
-
-pub getD-behind : (at : ℕ) (p l : List ℕ) (i : ℕ) → at ≤ length l → getD (overlay at p l) (at + length p + i) 0 ≡ getD l (at + length p + i) 0
-getD-behind at p l i h =
-    sym (getD-drop (at + length p) (overlay at p l) i 0)
-    ∙ ap (λ (m : List ℕ). getD m i 0) (rw (add-zero) at (drop-overlay at p l 0 h))
-    ∙ getD-drop (at + length p) l i 0
 
 -- a list laid where it stands already
 pub overlay-same : (p l : List ℕ) → take (length p) l ≡ p → overlay 0 p l ≡ l
@@ -215,3 +180,7 @@ stored-at at n v l h k = simp (le-leb _ _ h, le-leb _ _ k)
 pub copied-to : (at n : ℕ) (s : List ℕ) (from : ℕ) (l : List ℕ) → from + n ≤ length s → at + n ≤ length l → copiedTo at n s from l ≡ overlay at (part from n s) l
 unfolding copiedTo
 copied-to at n s from l h k = simp (le-leb _ _ h, le-leb _ _ k)
+
+pub filled-at : (at n b : ℕ) (l : List ℕ) → at + n ≤ length l → filledAt at n b l ≡ overlay at (replicate n b) l
+unfolding filledAt
+filled-at at n b l h = simp (le-leb _ _ h)

@@ -1,9 +1,7 @@
 -- Numbers in bytes, most significant byte first: the format whose fields all have 8 bits.
 use Prim.Native.Nat.{ℕ, _<_}
-use mathlib.Core.Bool.{Bool, cond}
 use mathlib.Core.List.{List}
-use lib.Dec.{leb}
-use lib.ListN.{length, getD, replicate, take, drop}
+use lib.ListN.{length, getD, replicate}
 use Rattle.fields.specs.Formats.{pack, unpack}
 
 -- what a slice of bytes tells of its list, past whose end `getD` answers 0

@@ -3,7 +3,7 @@ use Prim.Native.Nat.{ℕ, _+_}
 use mathlib.Core.Bool.{Bool, cond}
 use mathlib.Core.List.{List, _++_}
 use lib.Dec.{leb}
-use lib.ListN.{length, take, drop}
+use lib.ListN.{length, replicate, take, drop}
 use Rattle.fields.specs.Numbers.{number, bytes}
 
 -- the n elements from index `from` on
@@ -31,3 +31,7 @@ storedAt at n v l = cond (inside at n l) (cond (leb n 8) (overlay at (bytes n v)
 -- the n elements of s at `from` laid at `at`: nothing where they are not there, or have no room
 unfoldable pub copiedTo : ℕ → ℕ → List ℕ → ℕ → List ℕ → List ℕ
 copiedTo at n s from l = cond (inside from n s) (cond (inside at n l) (overlay at (part from n s) l) l) l
+
+-- n times the byte b laid at `at`: nothing where they have no room
+unfoldable pub filledAt : ℕ → ℕ → ℕ → List ℕ → List ℕ
+filledAt at n b l = cond (inside at n l) (overlay at (replicate n b) l) l

@@ -4,7 +4,7 @@ ghost use Prim.Native.Nat.{_+_};
 ghost use lib.Dec.{leb};
 ghost use lib.ListN.{getD};
 ghost use Rattle.fields.specs.Signed.{outside};
-ghost use Rattle.fields.specs.Parts.{numberAt, storedAt, copiedTo};
+ghost use Rattle.fields.specs.Parts.{numberAt, storedAt, copiedTo, filledAt};
 
 // Whether n elements from index at on lie within len. The sum of at and n is never made: it may not fit.
 pub fn within(at: usize, n: usize, len: usize) -> bool
@@ -86,6 +86,21 @@ pub fn copy(dst: &mut [u8], at: usize, n: usize, src: &[u8], from: usize)
     let mut i = 0;
     while i < n {
         dst[at + i] = src[from + i];
+        i += 1;
+    }
+}
+
+// Lays n times byte over dst at at; nothing where there is no room.
+pub fn fill(dst: &mut [u8], at: usize, n: usize, byte: u8)
+    ensures { λ _. ⌜ now (dst .exit) ≡ filledAt at n byte (now (dst .entry)) ⌝ }
+{
+    if !within(at, n, dst.len()) {
+        return;
+    }
+    let end = at + n;
+    let mut i = at;
+    while i < end {
+        dst[i] = byte;
         i += 1;
     }
 }

@@ -4,8 +4,8 @@ use super::SECOND;
 use refusals::Written;
 ghost use mathlib.Core.Path.{_≡_};
 ghost use mathlib.Core.Bool.{false};
-ghost use Prim.Native.Nat.{_-_, _≤_};
-ghost use lib.ListN.{length, replicate};
+ghost use Prim.Native.Nat.{_≤_};
+ghost use lib.ListN.{length};
 ghost use Rattle.fields.specs.Parts.{overlay};
 ghost use Rattle.refusals.specs.Checks.{first};
 ghost use Rattle.mip.specs.Write.{leadBytes, fieldWide, writeChecks, writeOf};
@@ -70,18 +70,6 @@ fn lay_lead(out: &mut [u8], m: Mip, addressing: usize)
     fields::store_at(out, 16, 5, tail);
 }
 
-// Lays stuffing over out from at up to byte 188.
-fn lay_stuffing(out: &mut [u8], at: usize)
-    requires { ⌜ (at ≤ 188) × (188 ≤ length (now out)) ⌝ }
-    ensures { λ _. ⌜ now (out .exit) ≡ overlay at (replicate (188 - at) 0xFF) (now (out .entry)) ⌝ }
-{
-    let mut i = at;
-    while i < 188 {
-        out[i] = 0xff;
-        i += 1;
-    }
-}
-
 // Writes a MIP with its addressing data over the first 188 bytes of out.
 pub fn write(m: Mip, addressing: &[u8], out: &mut [u8]) -> Written
     ensures { λ r. ⌜ record { answer = r; out = now (out .exit) } ≡ writeOf m (now (addressing .entry)) (now (out .entry)) ⌝ }
@@ -96,7 +84,8 @@ pub fn write(m: Mip, addressing: &[u8], out: &mut [u8]) -> Written
     fields::copy(out, 21, n, addressing, 0);
     let crc = crc::crc(&out[..end]);
     fields::store_at(out, end, 4, crc as u64);
-    lay_stuffing(out, end + 4);
+    let after = end + 4;
+    fields::fill(out, after, 188 - after, 0xff);
     Written {
         refusal: 0,
         bytes: 188,

@@ -1,6 +1,5 @@
 -- `fields::within` meets its contract: past the end nothing lies, and before it there is a difference to compare with.
 -- Assumes nothing.
-use borrow.Author.Needs.{needs}
 use lib.Dec.{leb}
 use Prim.Native.Nat.{ℕ, _+_, _-_, _≤_, _<_}
 use mathlib.Core.Path.{_≡_, sym, _∙_}

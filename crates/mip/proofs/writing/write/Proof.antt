@@ -10,10 +10,10 @@ use Prim.Native.Nat.{ℕ, _+_, _-_, _≤_}
 use native.Mathlib.Omega.{arith}
 use Rattle.crc.specs.Crc.{crcOf}
 use Rattle.fields.specs.Numbers.{bytes}
-use Rattle.fields.specs.Parts.{overlay, storedAt, copiedTo}
-use Rattle.fields.proofs.LaidLaws.{stored-next, copied-next}
+use Rattle.fields.specs.Parts.{overlay, storedAt, copiedTo, filledAt}
+use Rattle.fields.proofs.LaidLaws.{stored-next, copied-next, filled-next}
 use Rattle.fields.proofs.NumberLaws.{length-bytes}
-use Rattle.fields.proofs.PartLaws.{overlay-next, take-front}
+use Rattle.fields.proofs.PartLaws.{take-front}
 use Rattle.refusals.specs.Checks.{first}
 use Rattle.refusals.proofs.AnswerLaws.{written-number}
 use Rattle.mip.proofs.FieldLaws.{fit-wide, Writable, writable}
@@ -56,22 +56,22 @@ module _ (m : Mip) (d out : List ℕ) (short : length d ≤ 163) (room : 188 ≤
   with-crc : storedAt end 4 (crcOf front) (overlay 0 front out) ≡ overlay 0 (front ++ bytes 4 (crcOf front)) out
   with-crc = stored-next front out end (length-front m d) 4 (crcOf front) (omega arith) (omega arith)
 
-  with-stuffing : overlay (end + 4) (replicate (188 - (end + 4)) 0xFF) (overlay 0 (front ++ bytes 4 (crcOf front)) out) ≡ overlay 0 (mipBytes m d) out
+  with-stuffing : filledAt (end + 4) (188 - (end + 4)) 0xFF (overlay 0 (front ++ bytes 4 (crcOf front)) out) ≡ overlay 0 (mipBytes m d) out
   unfolding mipBytes
   with-stuffing =
       let long : length (front ++ bytes 4 (crcOf front)) ≡ end + 4 = length-append front (bytes 4 (crcOf front)) ∙ ap₂ _+_ (length-front m d) (length-bytes 4 (crcOf front)) in
       let n : 188 - (end + 4) ≡ 188 - (25 + length d) = omega arith in
-      overlay-next 0 (front ++ bytes 4 (crcOf front)) (replicate (188 - (end + 4)) 0xFF) out (end + 4) (omega arith) (omega arith)
+      filled-next (front ++ bytes 4 (crcOf front)) out (end + 4) long (188 - (end + 4)) 0xFF (omega arith)
       ∙ ap (λ (k : ℕ). overlay 0 ((front ++ bytes 4 (crcOf front)) ++ replicate k 0xFF) out) n
 
   steps : (o1 o2 o3 o4 : List ℕ) (crc : ℕ) → o1 ≡ overlay 0 (leadBytes m (length d)) out → o2 ≡ copiedTo 21 (length d) d 0 o1
-      → crc ≡ crcOf (take end o2) → o3 ≡ storedAt end 4 crc o2 → o4 ≡ overlay (end + 4) (replicate (188 - (end + 4)) 0xFF) o3
+      → crc ≡ crcOf (take end o2) → o3 ≡ storedAt end 4 crc o2 → o4 ≡ filledAt (end + 4) (188 - (end + 4)) 0xFF o3
       → o4 ≡ overlay 0 (mipBytes m d) out
   steps o1 o2 o3 o4 crc e1 e2 ec e3 e4 =
       let two : o2 ≡ overlay 0 front out = e2 ∙ ap (copiedTo 21 (length d) d 0) e1 ∙ with-data in
       let sum : crc ≡ crcOf front = ec ∙ ap crcOf (ap (take end) two ∙ taken) in
       let three : o3 ≡ overlay 0 (front ++ bytes 4 (crcOf front)) out = e3 ∙ ap₂ (λ (k : ℕ) (o : List ℕ). storedAt end 4 k o) sum two ∙ with-crc in
-      e4 ∙ ap (overlay (end + 4) (replicate (188 - (end + 4)) 0xFF)) three ∙ with-stuffing
+      e4 ∙ ap (filledAt (end + 4) (188 - (end + 4)) 0xFF) three ∙ with-stuffing
 
 write-refusal-requires : tie.Need-write-refusal-requires
 write-refusal-requires c κs = search needs
@@ -110,13 +110,16 @@ cast-store-at c = search needs
 store-at-requires : tie.Need-store-at-requires
 store-at-requires c κs = search needs
 
-add-lay-stuffing : tie.Need-add-lay-stuffing
-add-lay-stuffing c = search needs
+add-after : tie.Need-add-after
+add-after c = search needs
 
-lay-stuffing-requires : tie.Need-lay-stuffing-requires
-lay-stuffing-requires c κs =
+sub-fill : tie.Need-sub-fill
+sub-fill c =
     let k = c .before .before .before .before .before .before .before .before .before in
-    (omega (arith, well (refused k) .short), omega (arith, room-kept k, c .before .before .before .store-at .kept .0))
+    omega (arith, well (refused k) .short)
+
+fill-requires : tie.Need-fill-requires
+fill-requires c κs = search needs
 
 same-length : tie.Need-same-length
 same-length c = search needs
@@ -130,7 +133,7 @@ returns-2 c =
     let w = well e in
     sym (write-accepted (a .m) (now (a .addressing)) (now (a .out)) (passed e)
     ∙ ap (λ (l : List ℕ). record { answer = record { refusal = 0; bytes = 188 }; out = l })
-    (sym (steps (a .m) (now (a .addressing)) (now (a .out)) (w .short) (w .room) _ _ _ _ _ (k .before .before .before .before .lay-lead .ensures) (k .copy .ensures) (s .before .before .crc .ensures) (s .store-at .ensures) (c .before .before .lay-stuffing .ensures))))
+    (sym (steps (a .m) (now (a .addressing)) (now (a .out)) (w .short) (w .room) _ _ _ _ _ (k .before .before .before .before .lay-lead .ensures) (k .copy .ensures) (s .before .before .crc .ensures) (s .store-at .ensures) (c .before .before .fill .ensures))))
 
 pub write-spec : {M : Type 1} → statement M
 write-spec =
@@ -146,7 +149,8 @@ write-spec =
     crc-requires
     cast-store-at
     store-at-requires
-    add-lay-stuffing
-    lay-stuffing-requires
+    add-after
+    sub-fill
+    fill-requires
     same-length
     returns-2)
