@@ -1,7 +1,7 @@
 -- Where a MIP's fields lie in four numbers that 64 bits hold, and what the two refusal lists say once they are passed.
 -- Assumes nothing.
 use mathlib.Core.Path.{_≡_, refl, sym, ap, ap₂, _∙_}
-use mathlib.Core.Bool.{Bool, true, false, not, _&&_}
+use mathlib.Core.Bool.{true, false}
 use mathlib.Core.List.{List, [], _∷_, _++_}
 use Prim.Native.Nat.{ℕ, _+_, _-_, _*_, _^_, _≤_, _<_}
 use native.Mathlib.Omega.{arith}
@@ -17,11 +17,12 @@ use Rattle.fields.specs.Parts.{part, numberAt}
 use Rattle.fields.proofs.Cases.{cases, true≢false}
 use Rattle.fields.proofs.FormatLaws.{not-too-wide, fit-not-wide}
 use Rattle.fields.proofs.ByteFormatLaws.{unpack-parts, pack-parts}
-use Rattle.fields.proofs.PartLaws.{number-at}
+use Rattle.fields.proofs.PartLaws.{part-cons, part-none, number-at}
 use Rattle.refusals.specs.Checks.{first}
 use Rattle.refusals.proofs.FoundLaws.{stands, found, none-found, not-found}
-use Rattle.mip.specs.Layout.{transportHeader, parameters, headerOf, parametersOf, sectionOf, crcEnd, second}
-use Rattle.mip.specs.Read.{inHeader, parameter, addressingLength, addressingOf, sectionWrong, notAllOnes, readChecks, mipOf, leadOf}
+use Rattle.transport.specs.Header.{header, field, syncOf, countOf}
+use Rattle.mip.specs.Layout.{fixedFields, parameters, parametersOf, sectionOf, crcEnd, second}
+use Rattle.mip.specs.Read.{fixedOf, differ, parameter, addressingLength, addressingOf, sectionWrong, notAllOnes, readChecks, mipOf, leadOf}
 use Rattle.mip.specs.Write.{flag, headerFields, parameterFields, leadBytes, fieldWide, writeChecks}
 use Rattle.mip.specs.declared.Mip.{Mip}
 use Rattle.mip.specs.declared.reading.Lead.{Lead}
@@ -38,10 +39,30 @@ times = 24 ∷ 24 ∷ []
 abbrev pub tail : List ℕ
 tail = 32 ∷ 8 ∷ []
 
+-- the header's fields as one list: those of the number in its four bytes
+abbrev pub headerOf : List ℕ → List ℕ
+headerOf p = syncOf p ∷ (fixedOf p ++ (countOf p ∷ []))
+
+four : (p : List ℕ) → 4 ≤ length p → part 0 4 p ≡ getD p 0 0 ∷ getD p 1 0 ∷ getD p 2 0 ∷ getD p 3 0 ∷ []
+four p h =
+    part-cons 0 3 p (omega arith)
+    ∙ ap (λ (l : List ℕ). getD p 0 0 ∷ l) (part-cons 1 2 p (omega arith)
+    ∙ ap (λ (l : List ℕ). getD p 1 0 ∷ l) (part-cons 2 1 p (omega arith)
+    ∙ ap (λ (l : List ℕ). getD p 2 0 ∷ l) (part-cons 3 0 p (omega arith)
+    ∙ ap (λ (l : List ℕ). getD p 3 0 ∷ l) (part-none 4 p))))
+
+pub header-listed : (p : List ℕ) → 4 ≤ length p → headerOf p ≡ unpack header (number (part 0 4 p))
+unfolding field unpack
+header-listed p h = ap (λ (l : List ℕ). unpack header (number l)) (sym (four p h))
+
 module _ (p : List ℕ) (b : Bytes p) (e : length p ≡ 188) where
-  pub header-number : headerOf p ≡ unpack transportHeader (numberAt 0 4 p)
-  unfolding headerOf
-  header-number = ap (unpack transportHeader) (sym (number-at 0 4 p (omega arith) (omega arith)))
+  pub header-number : headerOf p ≡ unpack header (numberAt 0 4 p)
+  header-number = header-listed p (omega arith) ∙ ap (unpack header) (sym (number-at 0 4 p (omega arith) (omega arith)))
+
+  pub field-number : (i : ℕ) → field i p ≡ getD (unpack header (numberAt 0 4 p)) i 0
+  unfolding field
+  field-number i =
+      ap (λ (n : ℕ). getD (unpack header n) i 0) (ap number (sym (four p (omega arith))) ∙ sym (number-at 0 4 p (omega arith) (omega arith)))
 
   pub parameter-numbers : parametersOf p ≡ unpack head (numberAt 4 6 p) ++ (unpack times (numberAt 10 6 p) ++ unpack tail (numberAt 16 5 p))
   unfolding parametersOf
@@ -94,13 +115,8 @@ module _ (p : List ℕ) (a : ℕ) (e : a ≡ addressingLength p) where
 
 pub record Readable (p : List ℕ) : Type 0 where
   pub size : length p ≡ 188
-  pub sync : inHeader 0 p ≡ 0x47
-  pub error : inHeader 1 p ≡ 0
-  pub start : inHeader 2 p ≡ 1
-  pub priority : inHeader 3 p ≡ 1
-  pub pid : inHeader 4 p ≡ 0x15
-  pub scrambling : inHeader 5 p ≡ 0
-  pub adaptation : inHeader 6 p ≡ 1
+  pub sync : syncOf p ≡ 0x47
+  pub fixed : fixedOf p ≡ fixedFields
   pub id : parameter 0 p ≡ 0
   pub section : parameter 1 p ≡ sectionOf (addressingLength p)
   pub short : addressingLength p ≤ 163
@@ -110,14 +126,14 @@ pub record Readable (p : List ℕ) : Type 0 where
   pub stuffing : notAllOnes (drop (crcEnd (addressingLength p)) p) ≡ false
   pub fault : faultOf (addressingOf p) ≡ 0
 
-six : (a b c d e f : Bool) → not (a && b && c && d && e && f) ≡ false → (a ≡ true) × (b ≡ true) × (c ≡ true) × (d ≡ true) × (e ≡ true) × (f ≡ true)
-six true true true true true true h = (refl, refl, refl, refl, refl, refl)
-six false b c d e f h = absurd (true≢false h)
-six true false c d e f h = absurd (true≢false h)
-six true true false d e f h = absurd (true≢false h)
-six true true true false e f h = absurd (true≢false h)
-six true true true true false f h = absurd (true≢false h)
-six true true true true true false h = absurd (true≢false h)
+differ-not : (xs ys : List ℕ) → differ xs ys ≡ false → xs ≡ ys
+differ-not [] [] h = refl
+differ-not [] (y ∷ ys) h = absurd (true≢false h)
+differ-not (x ∷ xs) [] h = absurd (true≢false h)
+differ-not (x ∷ xs) (y ∷ ys) h =
+    cases (eqb x y)
+    (λ t. ap₂ _∷_ (eqb-true x y t) (differ-not xs ys (rw t at h)))
+    (λ t. absurd (true≢false (rw t at h)))
 
 pub section-right : (section addressing : ℕ) → sectionWrong section addressing ≡ false → (section ≡ sectionOf addressing) × (addressing ≤ 163)
 section-right s a h =
@@ -129,18 +145,12 @@ pub readable : (p : List ℕ) → first (readChecks p) ≡ 0 → Readable p
 unfolding readChecks
 readable p z =
     let n = none-found (readChecks p) (stands 0, (stands 4, (stands 29, (stands 30, (stands 31, (stands 13, (stands 32, (stands 33, (stands 34, (found (faultOf (addressingOf p)), tt)))))))))) z in
-    let h = six _ _ _ _ _ _ (n .1 .1 .0) in
     let s = section-right _ _ (n .1 .1 .1 .1 .0) in
     let late = n .1 .1 .1 .1 .1 in
     record {
       size = eqb-true _ _ (not-false _ (n .0));
       sync = eqb-true _ _ (not-false _ (n .1 .0));
-      error = eqb-true _ _ (h .0);
-      start = eqb-true _ _ (h .1);
-      priority = eqb-true _ _ (h .2);
-      pid = eqb-true _ _ (h .3);
-      scrambling = eqb-true _ _ (h .4);
-      adaptation = eqb-true _ _ (h .5);
+      fixed = differ-not _ _ (n .1 .1 .0);
       id = eqb-true _ _ (not-false _ (n .1 .1 .1 .0));
       section = s .0;
       short = s .1;
@@ -175,7 +185,7 @@ module _ (m : Mip) (n : ℕ) where
   abbrev tailFields : List ℕ
   tailFields = m .tps ∷ n ∷ []
 
-  header-packed : pack transportHeader (headerFields m) ≡ headerNumber m
+  header-packed : pack header (headerFields m) ≡ headerNumber m
   unfolding pack
   header-packed = omega arith
 
@@ -202,16 +212,16 @@ module _ (m : Mip) (n : ℕ) where
       ∙ ap₂ (λ (x y : ℕ). bytes 6 x ++ bytes 5 y) times-packed tail-packed))
 
   -- no field is too wide
-  pub wide-fit : fieldWide m n ≡ false → Fit transportHeader (headerFields m) × Fit parameters (parameterFields m n)
+  pub wide-fit : fieldWide m n ≡ false → Fit header (headerFields m) × Fit parameters (parameterFields m n)
   unfolding fieldWide
   wide-fit h =
-      cases (tooWide transportHeader (headerFields m))
+      cases (tooWide header (headerFields m))
       (λ t. absurd (true≢false (rw t at h)))
-      (λ t. (not-too-wide transportHeader (headerFields m) refl t, not-too-wide parameters (parameterFields m n) refl (rw t at h)))
+      (λ t. (not-too-wide header (headerFields m) refl t, not-too-wide parameters (parameterFields m n) refl (rw t at h)))
 
-  pub fit-wide : Fit transportHeader (headerFields m) → Fit parameters (parameterFields m n) → fieldWide m n ≡ false
+  pub fit-wide : Fit header (headerFields m) → Fit parameters (parameterFields m n) → fieldWide m n ≡ false
   unfolding fieldWide
-  fit-wide h f = rw (fit-not-wide transportHeader (headerFields m) h) (fit-not-wide parameters (parameterFields m n) f)
+  fit-wide h f = rw (fit-not-wide header (headerFields m) h) (fit-not-wide parameters (parameterFields m n) f)
 
   -- neither section_length nor the addressing length ever is
   pub wide-alike : n ≤ 163 → fieldWide m n ≡ fieldWide m 0
@@ -222,7 +232,7 @@ module _ (m : Mip) (n : ℕ) where
 
 pub record Writable (m : Mip) (d out : List ℕ) : Type 0 where
   pub short : length d ≤ 163
-  pub header : Fit transportHeader (headerFields m)
+  pub header : Fit header (headerFields m)
   pub fit : Fit parameters (parameterFields m (length d))
   pub stamp : m .stamp .0 < second
   pub delay : m .delay .0 < second

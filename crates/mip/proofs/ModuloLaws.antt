@@ -80,6 +80,7 @@ remainder-negative (negsuc k) m h t =
 
 -- ---- what makes it the remainder: it is the number itself below the modulus, and the modulus added changes nothing
 
+-- A theorem: below the modulus it is the number itself
 pub modulo-small : (n m : ℕ) → n < m → modulo (pos n) m ≡ n
 unfolding modulo
 modulo-small n m h = mod-eq-of-lt h

@@ -24,10 +24,11 @@ use Rattle.fields.proofs.NumberLaws.{length-bytes}
 use Rattle.fields.proofs.PartLaws.{length-part, part-bytes, part-add, part-front, part-behind, take-front}
 use Rattle.refusals.specs.Checks.{first}
 use Rattle.refusals.proofs.CheckLaws.{first-zero}
-use Rattle.mip.proofs.FieldLaws.{Readable, readable, Writable, writable, fit-wide}
+use Rattle.transport.specs.Header.{header, countOf}
+use Rattle.mip.proofs.FieldLaws.{headerOf, header-listed, Readable, readable, Writable, writable, fit-wide}
 use Rattle.mip.proofs.Operations.{read-shows, read-accepted, data-accepted, write-shows, length-lead, length-front, length-mip, write-accepted}
-use Rattle.mip.specs.Layout.{transportHeader, parameters, headerOf, parametersOf, crcEnd, second}
-use Rattle.mip.specs.Read.{inHeader, parameter, addressingLength, addressingOf, headerWrong, sectionWrong, notAllOnes, readChecks, mipOf, readOf, addressingRead}
+use Rattle.mip.specs.Layout.{fixedFields, parameters, parametersOf, crcEnd, second}
+use Rattle.mip.specs.Read.{parameter, addressingLength, addressingOf, differ, headerWrong, sectionWrong, notAllOnes, readChecks, mipOf, readOf, addressingRead}
 use Rattle.mip.specs.Write.{flag, headerFields, parameterFields, leadBytes, frontBytes, mipBytes, writeChecks, writeOf}
 use Rattle.mip.specs.declared.Mip.{Mip}
 
@@ -55,7 +56,7 @@ module _ (m : Mip) (d out : List ℕ) (w : Writable m d out) where
   s = mipBytes m d
 
   abbrev header4 : List ℕ
-  header4 = bytes 4 (pack transportHeader (headerFields m))
+  header4 = bytes 4 (pack header (headerFields m))
 
   abbrev parameters17 : List ℕ
   parameters17 = bytes 17 (pack parameters (parameterFields m (length d)))
@@ -76,10 +77,10 @@ module _ (m : Mip) (d out : List ℕ) (w : Writable m d out) where
   pieces = behind ∙ append-assoc header4 parameters17 (d ++ (crc4 ++ stuffing))
 
   header-back : headerOf s ≡ headerFields m
-  unfolding headerOf
   header-back =
-      ap (λ (l : List ℕ). unpack transportHeader (number l)) (ap (part 0 4) pieces ∙ part-front header4 (parameters17 ++ (d ++ (crc4 ++ stuffing))) 4 (length-bytes 4 _))
-      ∙ unpack-bytes transportHeader (headerFields m) 4 refl (w .header)
+      header-listed s (rw (length-mip m d (w .short)) (omega arith))
+      ∙ ap (λ (l : List ℕ). unpack header (number l)) (ap (part 0 4) pieces ∙ part-front header4 (parameters17 ++ (d ++ (crc4 ++ stuffing))) 4 (length-bytes 4 _))
+      ∙ unpack-bytes header (headerFields m) 4 refl (w .header)
 
   parameters-back : parametersOf s ≡ parameterFields m (length d)
   unfolding parametersOf
@@ -87,9 +88,6 @@ module _ (m : Mip) (d out : List ℕ) (w : Writable m d out) where
       ap (λ (l : List ℕ). unpack parameters (number l))
       (ap (part 4 17) pieces ∙ part-behind header4 (parameters17 ++ (d ++ (crc4 ++ stuffing))) 4 17 (length-bytes 4 _) ∙ take-at parameters17 (d ++ (crc4 ++ stuffing)) 17 (length-bytes 17 _))
       ∙ unpack-bytes parameters (parameterFields m (length d)) 17 refl (w .fit)
-
-  inHeader-is : (i : ℕ) → inHeader i s ≡ getD (headerFields m) i 0
-  inHeader-is i = ap (λ (l : List ℕ). getD l i 0) header-back
 
   parameter-is : (i : ℕ) → parameter i s ≡ getD (parameterFields m (length d)) i 0
   parameter-is i = ap (λ (l : List ℕ). getD l i 0) parameters-back
@@ -107,7 +105,9 @@ module _ (m : Mip) (d out : List ℕ) (w : Writable m d out) where
 
   mip-back : mipOf s ≡ m
   unfolding mipOf
-  mip-back = rw (header-back, parameters-back, bit-flag (m .periodic))
+  mip-back =
+      let count : countOf s ≡ m .count = ap (λ (l : List ℕ). getD l 7 0) header-back in
+      rw (count, parameters-back, bit-flag (m .periodic))
 
   -- up to the CRC's end, and from there on
   abbrev end : ℕ
@@ -131,8 +131,7 @@ module _ (m : Mip) (d out : List ℕ) (w : Writable m d out) where
       ∙ ones-right (188 - end)
 
   header-right : headerWrong s ≡ false
-  header-right =
-      rw (eq-eqb _ _ (inHeader-is 1), eq-eqb _ _ (inHeader-is 2), eq-eqb _ _ (inHeader-is 3), eq-eqb _ _ (inHeader-is 4), eq-eqb _ _ (inHeader-is 5), eq-eqb _ _ (inHeader-is 6))
+  header-right = ap (λ (l : List ℕ). differ (take 6 (drop 1 l)) fixedFields) header-back
 
   section-fits : sectionWrong (parameter 1 s) (addressingLength s) ≡ false
   section-fits =
@@ -145,7 +144,7 @@ module _ (m : Mip) (d out : List ℕ) (w : Writable m d out) where
       first-zero (readChecks s) (
         ap not (eq-eqb _ _ (length-mip m d (w .short))),
         (
-          ap not (eq-eqb _ _ (inHeader-is 0)),
+          ap not (eq-eqb _ _ (ap (λ (l : List ℕ). getD l 0 0) header-back)),
           (
             header-right,
             (
@@ -204,21 +203,19 @@ module _ (p : List ℕ) (b : Bytes p) (r : Readable p) where
   length-data = length-part 21 a p (omega (arith, r .size, r .short))
 
   -- the fields with the fixed ones in their places are all the fields
-  header-listed : headerOf p ≡ inHeader 0 p ∷ inHeader 1 p ∷ inHeader 2 p ∷ inHeader 3 p ∷ inHeader 4 p ∷ inHeader 5 p ∷ inHeader 6 p ∷ inHeader 7 p ∷ []
-  unfolding headerOf unpack
-  header-listed = refl
-
   header-same : headerOf p ≡ headerFields (mipOf p)
   unfolding mipOf
-  header-same = header-listed ∙ rw (r .sync, r .error, r .start, r .priority, r .pid, r .scrambling, r .adaptation)
+  header-same = ap₂ (λ (x : ℕ) (l : List ℕ). x ∷ (l ++ (countOf p ∷ []))) (r .sync) (r .fixed)
+
+  listed : unpack header (number (part 0 4 p)) ≡ headerFields (mipOf p)
+  listed = sym (header-listed p (rw (r .size) (omega arith))) ∙ header-same
 
   parameters-listed : parametersOf p ≡ parameter 0 p ∷ parameter 1 p ∷ parameter 2 p ∷ parameter 3 p ∷ parameter 4 p ∷ parameter 5 p ∷ parameter 6 p ∷ parameter 7 p ∷ a ∷ []
   unfolding parametersOf unpack
   parameters-listed = refl
 
-  header-fit : Fit transportHeader (headerFields (mipOf p))
-  unfolding headerOf
-  header-fit = subst (Fit transportHeader) header-same (unpack-fit transportHeader (number (part 0 4 p)))
+  header-fit : Fit header (headerFields (mipOf p))
+  header-fit = subst (Fit header) listed (unpack-fit header (number (part 0 4 p)))
 
   periodic-small : parameter 3 p < 2
   unfolding parametersOf unpack
@@ -233,11 +230,11 @@ module _ (p : List ℕ) (b : Bytes p) (r : Readable p) where
   parameters-fit = subst (Fit parameters) parameters-same (unpack-fit parameters (number (part 4 17 p)))
 
   lead-same : leadBytes (mipOf p) (length (addressingOf p)) ≡ part 0 21 p
-  unfolding leadBytes headerOf parametersOf
+  unfolding leadBytes parametersOf
   lead-same =
       ap₂ _++_
-      (ap (λ (l : List ℕ). bytes 4 (pack transportHeader l)) (sym header-same)
-      ∙ pack-bytes transportHeader (part 0 4 p) 4 (part-bytes 0 4 p b) (length-part 0 4 p (omega (arith, r .size))) refl)
+      (ap (λ (l : List ℕ). bytes 4 (pack header l)) (sym listed)
+      ∙ pack-bytes header (part 0 4 p) 4 (part-bytes 0 4 p b) (length-part 0 4 p (omega (arith, r .size))) refl)
       (ap (λ (l : List ℕ). bytes 17 (pack parameters l)) (sym parameters-same)
       ∙ pack-bytes parameters (part 4 17 p) 17 (part-bytes 4 17 p b) (length-part 4 17 p (omega (arith, r .size))) refl)
       ∙ sym (part-add 0 4 17 p)

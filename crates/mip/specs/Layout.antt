@@ -1,25 +1,22 @@
--- Where each field of a MIP lies (000, table 1b): a transport packet header of 4 bytes, 17 bytes of parameters, the
--- addressing data, the CRC, and stuffing up to 188 bytes.
+-- Where each field of a MIP lies (000, table 1b): the header of a transport packet, 17 bytes of parameters, the addressing
+-- data, the CRC, and stuffing up to 188 bytes.
 use Prim.Native.Nat.{ℕ, _+_}
 use mathlib.Core.List.{List, [], _∷_}
 use Rattle.fields.specs.Formats.{unpack}
 use Rattle.fields.specs.Numbers.{number}
 use Rattle.fields.specs.Parts.{part}
 
--- sync byte 8, transport_error_indicator 1, payload_unit_start_indicator 1, transport_priority 1, PID 13,
--- transport_scrambling_control 2, adaptation_field_control 2, continuity_counter 4
-abbrev pub transportHeader : List ℕ
-transportHeader = 8 ∷ 1 ∷ 1 ∷ 1 ∷ 13 ∷ 2 ∷ 2 ∷ 4 ∷ []
+-- the header's fields between the sync byte and the count, in every MIP: no error mark, start and priority 1, PID 0x15,
+-- scrambling 00, adaptation control 01
+abbrev pub fixedFields : List ℕ
+fixedFields = 0 ∷ 1 ∷ 1 ∷ 0x15 ∷ 0 ∷ 1 ∷ []
 
 -- synchronization_id 8, section_length 8, pointer 16, periodic_flag 1, future_use 15, synchronization_time_stamp 24,
 -- maximum_delay 24, tps_mip 32, individual_addressing_length 8
 abbrev pub parameters : List ℕ
 parameters = 8 ∷ 8 ∷ 16 ∷ 1 ∷ 15 ∷ 24 ∷ 24 ∷ 32 ∷ 8 ∷ []
 
--- the header's fields and the parameters of a packet
-unfoldable pub headerOf : List ℕ → List ℕ
-headerOf p = unpack transportHeader (number (part 0 4 p))
-
+-- the parameters of a packet
 unfoldable pub parametersOf : List ℕ → List ℕ
 parametersOf p = unpack parameters (number (part 4 17 p))
 

@@ -1,6 +1,6 @@
 -- Reading a MIP (01: 1, 5, 30, 31, 32, 14, 33, 34, 35, then the check of the addressing data).
 use Prim.Native.Nat.{ℕ}
-use mathlib.Core.Bool.{Bool, true, false, cond, not, _&&_}
+use mathlib.Core.Bool.{Bool, true, false, cond, not}
 use mathlib.Core.List.{List, [], _∷_}
 use lib.Dec.{eqb, leb, ltb}
 use lib.ListN.{length, getD, take, drop}
@@ -9,15 +9,17 @@ use Rattle.fields.specs.Parts.{part}
 use Rattle.refusals.specs.Checks.{Check, _when_}
 use Rattle.refusals.specs.Answers.{answer}
 use Rattle.addressing.specs.Data.{faultOf}
-use Rattle.mip.specs.Layout.{headerOf, parametersOf, sectionOf, crcEnd, second}
+use Rattle.transport.specs.Header.{syncOf, errorOf, startOf, priorityOf, pidOf, scramblingOf, controlOf, countOf}
+use Rattle.mip.specs.Layout.{fixedFields, parametersOf, sectionOf, crcEnd, second}
 use Rattle.mip.specs.declared.Mip.{Mip}
 use Rattle.mip.specs.declared.MipRead.{MipRead}
 use Rattle.mip.specs.declared.reading.Lead.{Lead}
 
 -- ---- the fields
 
-abbrev pub inHeader : ℕ → List ℕ → ℕ
-inHeader i p = getD (headerOf p) i 0
+-- the header's, between the sync byte and the count
+abbrev pub fixedOf : List ℕ → List ℕ
+fixedOf p = errorOf p ∷ startOf p ∷ priorityOf p ∷ pidOf p ∷ scramblingOf p ∷ controlOf p ∷ []
 
 abbrev pub parameter : ℕ → List ℕ → ℕ
 parameter i p = getD (parametersOf p) i 0
@@ -30,16 +32,16 @@ addressingOf p = part 21 (addressingLength p) p
 
 -- ---- the refusals
 
--- a bit is not as it must be: no error mark, start and priority 1, PID 0x15, scrambling 00, adaptation control 01, any count
--- (01, refusal 30)
+-- one list is not the other
+abbrev pub differ : List ℕ → List ℕ → Bool
+differ [] [] = false
+differ [] (y ∷ ys) = true
+differ (x ∷ xs) [] = true
+differ (x ∷ xs) (y ∷ ys) = cond (eqb x y) (differ xs ys) true
+
+-- a fixed bit is another (01, refusal 30); any count is taken
 abbrev pub headerWrong : List ℕ → Bool
-headerWrong p =
-    not (eqb (inHeader 1 p) 0
-    && eqb (inHeader 2 p) 1
-    && eqb (inHeader 3 p) 1
-    && eqb (inHeader 4 p) 0x15
-    && eqb (inHeader 5 p) 0
-    && eqb (inHeader 6 p) 1)
+headerWrong p = differ (fixedOf p) fixedFields
 
 -- a section_length over 182, or not 19 plus the addressing length (01, refusal 32)
 abbrev pub sectionWrong : ℕ → ℕ → Bool
@@ -59,7 +61,7 @@ stuffingWrong p = notAllOnes (drop (crcEnd (addressingLength p)) p)
 unfoldable pub readChecks : List ℕ → List Check
 readChecks p =
     1 when not (eqb (length p) 188)
-    ∷ 5 when not (eqb (inHeader 0 p) 0x47)
+    ∷ 5 when not (eqb (syncOf p) 0x47)
     ∷ 30 when headerWrong p
     ∷ 31 when not (eqb (parameter 0 p) 0)
     ∷ 32 when sectionWrong (parameter 1 p) (addressingLength p)
@@ -78,7 +80,7 @@ bit n = eqb n 1
 unfoldable pub mipOf : List ℕ → Mip
 mipOf p =
     record {
-      count = inHeader 7 p;
+      count = countOf p;
       pointer = parameter 2 p;
       periodic = bit (parameter 3 p);
       future = parameter 4 p;
@@ -91,7 +93,7 @@ mipOf p =
 abbrev pub leadOf : List ℕ → Lead
 leadOf p =
     record {
-      sync = inHeader 0 p;
+      sync = syncOf p;
       id = parameter 0 p;
       section = parameter 1 p;
       addressing = addressingLength p;

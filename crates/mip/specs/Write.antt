@@ -10,7 +10,8 @@ use Rattle.fields.specs.Numbers.{bytes}
 use Rattle.refusals.specs.Checks.{Check, _when_}
 use Rattle.refusals.specs.Answers.{Wrote, written}
 use Rattle.addressing.specs.Data.{faultOf}
-use Rattle.mip.specs.Layout.{transportHeader, parameters, sectionOf, crcEnd, second}
+use Rattle.transport.specs.Header.{header}
+use Rattle.mip.specs.Layout.{fixedFields, parameters, sectionOf, crcEnd, second}
 use Rattle.mip.specs.declared.Mip.{Mip}
 
 abbrev pub flag : Bool → ℕ
@@ -18,7 +19,7 @@ flag b = cond b 1 0
 
 -- the fields in table 1b's order
 abbrev pub headerFields : Mip → List ℕ
-headerFields m = 0x47 ∷ 0 ∷ 1 ∷ 1 ∷ 0x15 ∷ 0 ∷ 1 ∷ m .count ∷ []
+headerFields m = 0x47 ∷ (fixedFields ++ (m .count ∷ []))
 
 abbrev pub parameterFields : Mip → ℕ → List ℕ
 parameterFields m addressing =
@@ -27,7 +28,7 @@ parameterFields m addressing =
 -- the header and the parameters
 unfoldable pub leadBytes : Mip → ℕ → List ℕ
 leadBytes m addressing =
-    bytes 4 (pack transportHeader (headerFields m)) ++ bytes 17 (pack parameters (parameterFields m addressing))
+    bytes 4 (pack header (headerFields m)) ++ bytes 17 (pack parameters (parameterFields m addressing))
 
 -- all before the CRC
 unfoldable pub frontBytes : Mip → List ℕ → List ℕ
@@ -41,7 +42,7 @@ mipBytes m d =
 -- a field is too wide for its bits (01, refusal 38)
 unfoldable pub fieldWide : Mip → ℕ → Bool
 fieldWide m addressing =
-    cond (tooWide transportHeader (headerFields m)) true (tooWide parameters (parameterFields m addressing))
+    cond (tooWide header (headerFields m)) true (tooWide parameters (parameterFields m addressing))
 
 -- `room` is how many bytes the output has
 unfoldable pub writeChecks : Mip → List ℕ → ℕ → List Check

@@ -25,6 +25,9 @@ errorOf t = field 1 t
 abbrev pub startOf : List ℕ → ℕ
 startOf t = field 2 t
 
+abbrev pub priorityOf : List ℕ → ℕ
+priorityOf t = field 3 t
+
 abbrev pub pidOf : List ℕ → ℕ
 pidOf t = field 4 t
 
