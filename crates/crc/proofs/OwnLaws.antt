@@ -1,19 +1,22 @@
 -- The CRC behind its bytes makes the register end at zero, and no other four bytes do. By the key law four bytes are added
 -- to the whole register: equal digits cancel, and since feeding can be undone only equal ones leave nothing.
 -- Assumes nothing.
-use mathlib.Core.Path.{_≡_, sym, ap₂, _∙_}
+use mathlib.Core.Path.{_≡_, sym, ap, ap₂, _∙_}
 use mathlib.Core.Bool.{true}
-use mathlib.Core.List.{List, _++_}
-use Prim.Native.Nat.{ℕ, _^_, _<_}
+use mathlib.Core.List.{List, _++_, append-assoc}
+use Prim.Native.Nat.{ℕ, _+_, _^_, _≤_, _<_}
 use native.Mathlib.Nat.{mul-one}
 use native.Mathlib.Omega.{arith}
 use lib.Dec.{lit<}
-use lib.ListN.{length}
+use lib.ListN.{length, take, drop, length-append, length-drop, take-append-drop}
 use lib.Bits.{bitXor, xor-lt, xor-self}
-use borrow.Author.Tests.{eqb-true, eq-eqb}
+use borrow.Author.Tests.{le-leb, eqb-true, eq-eqb}
 use Rattle.fields.specs.Numbers.{Bytes, number, bytes}
-use Rattle.fields.proofs.NumberLaws.{bytes-are, length-bytes, number-lt, number-bytes, bytes-number}
+use Rattle.fields.specs.Parts.{overlay}
+use Rattle.fields.proofs.NumberLaws.{bytes-are, bytes-append, bytes-drop, length-bytes, number-lt, number-bytes, bytes-number}
+use Rattle.fields.proofs.PartLaws.{length-overlay, overlay-next, take-front}
 use Rattle.crc.specs.Crc.{run, allOnes, crcOf, crcHolds}
+use Rattle.crc.specs.Sealed.{sealed, sealedAt}
 use Rattle.crc.specs.Tables.{zeros}
 use Rattle.crc.proofs.XorLaws.{xor-zero}
 use Rattle.crc.proofs.FeedLaws.{zeros-none}
@@ -51,10 +54,44 @@ pub crc-only : (l t : List ℕ) → Bytes t → length t ≡ 4 → crcOf (l ++ t
 unfolding crcOf
 crc-only l t = run-only allOnes l t (lit< tt)
 
-pub holds-own : (l : List ℕ) → crcHolds (l ++ bytes 4 (crcOf l)) ≡ true
-unfolding crcHolds
+-- ---- bytes with their CRC behind them
+
+pub length-sealed : (l : List ℕ) → length (sealed l) ≡ length l + 4
+unfolding sealed
+length-sealed l = length-append l (bytes 4 (crcOf l)) ∙ ap (λ (k : ℕ). length l + k) (length-bytes 4 (crcOf l))
+
+pub bytes-sealed : (l : List ℕ) → Bytes l → Bytes (sealed l)
+unfolding sealed
+bytes-sealed l b = bytes-append l (bytes 4 (crcOf l)) b (bytes-are 4 (crcOf l))
+
+pub sealed-append : (l m : List ℕ) → sealed (l ++ m) ≡ l ++ (m ++ bytes 4 (crcOf (l ++ m)))
+unfolding sealed
+sealed-append l m = append-assoc l m (bytes 4 (crcOf (l ++ m)))
+
+-- the CRC holds over them
+pub holds-own : (l : List ℕ) → crcHolds (sealed l) ≡ true
+unfolding crcHolds sealed
 holds-own l = eq-eqb (crcOf (l ++ bytes 4 (crcOf l))) 0 (crc-own l)
 
-pub holds-only : (l t : List ℕ) → Bytes t → length t ≡ 4 → crcHolds (l ++ t) ≡ true → t ≡ bytes 4 (crcOf l)
-unfolding crcHolds
-holds-only l t ht e h = crc-only l t ht e (eqb-true (crcOf (l ++ t)) 0 h)
+-- and over no bytes with any other four at their end
+pub holds-only : (n : ℕ) (s : List ℕ) → Bytes s → length s ≡ n + 4 → crcHolds s ≡ true → sealed (take n s) ≡ s
+unfolding crcHolds sealed
+holds-only n s b e h =
+    let two : take n s ++ drop n s ≡ s = take-append-drop n s in
+    let four : length (drop n s) ≡ 4 = length-drop n s ∙ omega arith in
+    let zero : crcOf (take n s ++ drop n s) ≡ 0 = ap crcOf two ∙ eqb-true (crcOf s) 0 h in
+    ap (λ (t : List ℕ). take n s ++ t) (sym (crc-only (take n s) (drop n s) (bytes-drop n s b) four zero)) ∙ two
+
+-- `seal` where there is room, and behind what was laid at the front
+pub sealed-at : (n : ℕ) (l : List ℕ) → n + 4 ≤ length l → sealedAt n l ≡ overlay n (bytes 4 (crcOf (take n l))) l
+unfolding sealedAt
+sealed-at n l h = rw (le-leb (n + 4) (length l) h)
+
+pub sealed-next : (p out : List ℕ) (n : ℕ) → length p ≡ n → n + 4 ≤ length out → sealedAt n (overlay 0 p out) ≡ overlay 0 (sealed p) out
+unfolding sealed
+sealed-next p out n e h =
+    let long : length (overlay 0 p out) ≡ length out = length-overlay 0 p out (omega arith) in
+    let front : take n (overlay 0 p out) ≡ p = rw (← e) (take-front p out) in
+    sealed-at n (overlay 0 p out) (omega arith)
+    ∙ ap (λ (l : List ℕ). overlay n (bytes 4 (crcOf l)) (overlay 0 p out)) front
+    ∙ overlay-next 0 p (bytes 4 (crcOf p)) out n (omega arith) (omega arith)

@@ -70,6 +70,7 @@ shift-zero r h e =
     let odd : taps ≡ r * 2 % 2 ^ 32 = xor-zero taps (r * 2 % 2 ^ 32) (rw one at e) in
     omega arith)
 
+-- A theorem: nor do two registers leave the same
 pub shift-injective : (a b bit : ℕ) → a < 2 ^ 32 → b < 2 ^ 32 → bit < 2 → shift a bit ≡ shift b bit → a ≡ b
 shift-injective a b bit ha hb hbit e =
     xor-zero a b (shift-zero (bitXor a b) (xor-lt 32 a b ha hb)

@@ -6,6 +6,7 @@ ghost use lib.ListN.{length};
 ghost use Rattle.fields.specs.Numbers.{number};
 ghost use Rattle.fields.specs.Parts.{part};
 ghost use Rattle.crc.specs.Crc.{feed, run, crcOf, crcHolds};
+ghost use Rattle.crc.specs.Sealed.{sealedAt};
 ghost use Rattle.crc.specs.Tables.{zeros, Tables};
 
 mod table;
@@ -117,4 +118,15 @@ pub fn holds(bytes: &[u8]) -> bool
     ensures { λ r. ⌜ r ≡ crcHolds (now (bytes .entry)) ⌝ }
 {
     crc(bytes) == 0
+}
+
+// Lays the CRC of the first n bytes of out behind them, top byte first; nothing where it has no room.
+pub fn seal(out: &mut [u8], n: usize)
+    ensures { λ _. ⌜ now (out .exit) ≡ sealedAt n (now (out .entry)) ⌝ }
+{
+    if !fields::within(n, 4, out.len()) {
+        return;
+    }
+    let sum = crc(&out[..n]);
+    fields::store_at(out, n, 4, sum as u64);
 }

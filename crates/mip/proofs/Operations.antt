@@ -5,12 +5,15 @@ use mathlib.Core.List.{List, []}
 use Prim.Native.Nat.{ℕ, _+_, _≤_}
 use native.Mathlib.Omega.{arith}
 use lib.ListN.{length, length-append, length-replicate}
+use Rattle.crc.specs.Sealed.{sealed}
+use Rattle.crc.proofs.OwnLaws.{length-sealed}
 use Rattle.fields.specs.Parts.{overlay}
 use Rattle.fields.proofs.NumberLaws.{length-bytes}
 use Rattle.refusals.specs.Checks.{first}
 use Rattle.refusals.specs.Answers.{answer}
 use Rattle.refusals.proofs.AnswerLaws.{answer-accepted, answer-refused, answer-shows, written-accepted, written-refused, written-shows}
 use Rattle.mip.proofs.FieldLaws.{writable}
+use Rattle.mip.specs.Layout.{crcEnd}
 use Rattle.mip.specs.Read.{addressingLength, addressingOf, readChecks, mipOf, noMip, readOf, addressingRead}
 use Rattle.mip.specs.Write.{leadBytes, frontBytes, mipBytes, writeChecks, writeOf}
 use Rattle.mip.specs.declared.Mip.{Mip}
@@ -51,10 +54,14 @@ module _ (m : Mip) (d : List ℕ) where
   unfolding frontBytes
   length-front = length-append (leadBytes m (length d)) d ∙ ap (λ (k : ℕ). k + length d) (length-lead m (length d))
 
+  -- up to the CRC's end
+  pub length-end : length (sealed (frontBytes m d)) ≡ crcEnd (length d)
+  length-end = length-sealed (frontBytes m d) ∙ omega (arith, length-front)
+
   pub length-mip : length d ≤ 163 → length (mipBytes m d) ≡ 188
   unfolding mipBytes
   length-mip h =
-      simp (length-append, length-front, length-bytes, length-replicate) (omega arith)
+      simp (length-append, length-end, length-replicate) (omega arith)
 
 pub write-accepted : (m : Mip) (d out : List ℕ) → first (writeChecks m d (length out)) ≡ 0
     → writeOf m d out ≡ record { answer = record { refusal = 0; bytes = 188 }; out = overlay 0 (mipBytes m d) out }

@@ -5,28 +5,28 @@ use mathlib.Core.Path.{_≡_, refl, sym, ap, ap₂, _∙_, subst}
 use mathlib.Core.Bool.{Bool, true, false, not}
 use mathlib.Core.List.{List, [], _∷_, _++_, append-assoc}
 use Prim.Native.Nat.{ℕ, zero, suc, _+_, _-_, _≤_, _<_}
-use native.Mathlib.Nat.{zero-add}
 use native.Mathlib.Omega.{arith}
 use lib.Dec.{eqb, leb}
-use lib.ListN.{length, getD, take, drop, replicate, length-append, length-drop, take-append-drop}
-use lib.Seq.{take-at, drop-at}
+use lib.ListN.{length, getD, take, drop, replicate, length-drop, take-append-drop}
+use lib.Seq.{length-take-le, take-take, take-at, drop-at}
 use borrow.Author.Tests.{le-ltb, lt-leb, eq-eqb, eqb-true, eqb-false}
 use Rattle.addressing.specs.Data.{faultOf}
 use Rattle.crc.specs.Crc.{crcOf, crcHolds}
-use Rattle.crc.proofs.OwnLaws.{holds-own, holds-only}
+use Rattle.crc.specs.Sealed.{sealed}
+use Rattle.crc.proofs.OwnLaws.{sealed-append, holds-own, holds-only}
 use Rattle.fields.specs.Formats.{pack, unpack, Fit}
 use Rattle.fields.specs.Numbers.{Bytes, number, bytes}
 use Rattle.fields.specs.Parts.{part, overlay}
 use Rattle.fields.proofs.ByteFormatLaws.{unpack-bytes, pack-bytes}
 use Rattle.fields.proofs.Cases.{cases, true≢false}
 use Rattle.fields.proofs.FormatLaws.{unpack-fit}
-use Rattle.fields.proofs.NumberLaws.{length-bytes}
+use Rattle.fields.proofs.NumberLaws.{bytes-take, length-bytes}
 use Rattle.fields.proofs.PartLaws.{length-part, part-bytes, part-add, part-front, part-behind, take-front}
 use Rattle.refusals.specs.Checks.{first}
 use Rattle.refusals.proofs.CheckLaws.{first-zero}
 use Rattle.transport.specs.Header.{header, countOf}
 use Rattle.mip.proofs.FieldLaws.{headerOf, header-listed, Readable, readable, Writable, writable, fit-wide}
-use Rattle.mip.proofs.Operations.{read-shows, read-accepted, data-accepted, write-shows, length-lead, length-front, length-mip, write-accepted}
+use Rattle.mip.proofs.Operations.{read-shows, read-accepted, data-accepted, write-shows, length-lead, length-end, length-mip, write-accepted}
 use Rattle.mip.specs.Layout.{fixedFields, parameters, parametersOf, crcEnd, second}
 use Rattle.mip.specs.Read.{parameter, addressingLength, addressingOf, differ, headerWrong, sectionWrong, notAllOnes, readChecks, mipOf, readOf, addressingRead}
 use Rattle.mip.specs.Write.{flag, headerFields, parameterFields, leadBytes, frontBytes, mipBytes, writeChecks, writeOf}
@@ -70,7 +70,9 @@ module _ (m : Mip) (d out : List ℕ) (w : Writable m d out) where
   behind : mipBytes m d ≡ leadBytes m (length d) ++ (d ++ (crc4 ++ stuffing))
   unfolding mipBytes frontBytes
   behind =
-      append-assoc (leadBytes m (length d) ++ d) crc4 stuffing ∙ append-assoc (leadBytes m (length d)) d (crc4 ++ stuffing)
+      ap (λ (l : List ℕ). l ++ stuffing) (sealed-append (leadBytes m (length d)) d)
+      ∙ append-assoc (leadBytes m (length d)) (d ++ crc4) stuffing
+      ∙ ap (λ (l : List ℕ). leadBytes m (length d) ++ l) (append-assoc d crc4 stuffing)
 
   pieces : mipBytes m d ≡ header4 ++ (parameters17 ++ (d ++ (crc4 ++ stuffing)))
   unfolding leadBytes
@@ -113,21 +115,18 @@ module _ (m : Mip) (d out : List ℕ) (w : Writable m d out) where
   abbrev end : ℕ
   end = crcEnd (length d)
 
-  length-end : length (frontBytes m d ++ crc4) ≡ end
-  length-end = length-append (frontBytes m d) crc4 ∙ omega (arith, length-front m d, length-bytes 4 (crcOf (frontBytes m d)))
-
   crc-holds : crcHolds (take (crcEnd (addressingLength s)) s) ≡ true
   unfolding mipBytes
   crc-holds =
       ap (λ (n : ℕ). crcHolds (take (crcEnd n) s)) length-back
-      ∙ ap crcHolds (take-at (frontBytes m d ++ crc4) stuffing end length-end)
+      ∙ ap crcHolds (take-at (sealed (frontBytes m d)) stuffing end (length-end m d))
       ∙ holds-own (frontBytes m d)
 
   stuffing-right : notAllOnes (drop (crcEnd (addressingLength s)) s) ≡ false
   unfolding mipBytes
   stuffing-right =
       ap (λ (n : ℕ). notAllOnes (drop (crcEnd n) s)) length-back
-      ∙ ap notAllOnes (drop-at (frontBytes m d ++ crc4) stuffing end length-end)
+      ∙ ap notAllOnes (drop-at (sealed (frontBytes m d)) stuffing end (length-end m d))
       ∙ ones-right (188 - end)
 
   header-right : headerWrong s ≡ false
@@ -239,23 +238,15 @@ module _ (p : List ℕ) (b : Bytes p) (r : Readable p) where
       ∙ pack-bytes parameters (part 4 17 p) 17 (part-bytes 4 17 p b) (length-part 4 17 p (omega (arith, r .size))) refl)
       ∙ sym (part-add 0 4 17 p)
 
-  front-same : frontBytes (mipOf p) (addressingOf p) ≡ part 0 (21 + a) p
+  front-same : frontBytes (mipOf p) (addressingOf p) ≡ take (21 + a) p
   unfolding frontBytes addressingOf
-  front-same = ap (λ (l : List ℕ). l ++ part 21 a p) lead-same ∙ sym (part-add 0 21 a p)
+  front-same = ap (λ (l : List ℕ). l ++ part 21 a p) lead-same ∙ sym (part-add 0 21 a p) ∙ unfold part in refl
 
-  -- up to the CRC's end: all before it, and the CRC
-  front-part : (n : ℕ) → take n p ≡ part 0 n p
-  unfolding part
-  front-part n = refl
-
-  two : take (crcEnd a) p ≡ part 0 (21 + a) p ++ part (21 + a) 4 p
-  two =
-      let e : crcEnd a ≡ 21 + a + 4 = omega arith in
-      front-part (crcEnd a) ∙ ap (λ (k : ℕ). part 0 k p) e ∙ part-add 0 (21 + a) 4 p ∙ ap (λ (k : ℕ). part 0 (21 + a) p ++ part k 4 p) (zero-add (21 + a))
-
-  crc-same : part (21 + a) 4 p ≡ bytes 4 (crcOf (part 0 (21 + a) p))
-  crc-same =
-      holds-only (part 0 (21 + a) p) (part (21 + a) 4 p) (part-bytes (21 + a) 4 p b) (length-part (21 + a) 4 p (omega (arith, r .size, r .short))) (ap crcHolds (sym two) ∙ r .crc)
+  sealed-same : sealed (frontBytes (mipOf p) (addressingOf p)) ≡ take (crcEnd a) p
+  sealed-same =
+      let long : length (take (crcEnd a) p) ≡ 21 + a + 4 = length-take-le (crcEnd a) p (omega (arith, r .size, r .short)) ∙ omega arith in
+      ap sealed (front-same ∙ sym (take-take (21 + a) (crcEnd a) p (omega arith)))
+      ∙ holds-only (21 + a) (take (crcEnd a) p) (bytes-take (crcEnd a) p b) long (r .crc)
 
   stuffing-same : drop (crcEnd a) p ≡ replicate (188 - crcEnd a) 0xFF
   stuffing-same =
@@ -264,8 +255,7 @@ module _ (p : List ℕ) (b : Bytes p) (r : Readable p) where
   packet-same : mipBytes (mipOf p) (addressingOf p) ≡ p
   unfolding mipBytes
   packet-same =
-      ap₂ (λ (l : List ℕ) (n : ℕ). (l ++ bytes 4 (crcOf l)) ++ replicate (188 - crcEnd n) 0xFF) front-same length-data
-      ∙ ap₂ _++_ (ap (λ (l : List ℕ). part 0 (21 + a) p ++ l) (sym crc-same) ∙ sym two) (sym stuffing-same)
+      ap₂ _++_ sealed-same (ap (λ (n : ℕ). replicate (188 - crcEnd n) 0xFF) length-data ∙ sym stuffing-same)
       ∙ take-append-drop (crcEnd a) p
 
   passes-write : (out : List ℕ) → 188 ≤ length out → first (writeChecks (mipOf p) (addressingOf p) (length out)) ≡ 0

@@ -4,7 +4,7 @@ use mathlib.Core.Bool.{Bool, true, cond, not}
 use mathlib.Core.List.{List, [], _∷_, _++_}
 use lib.Dec.{eqb, leb, ltb}
 use lib.ListN.{length, replicate}
-use Rattle.crc.specs.Crc.{crcOf}
+use Rattle.crc.specs.Sealed.{sealed}
 use Rattle.fields.specs.Formats.{pack, tooWide}
 use Rattle.fields.specs.Numbers.{bytes}
 use Rattle.refusals.specs.Checks.{Check, _when_}
@@ -34,10 +34,9 @@ leadBytes m addressing =
 unfoldable pub frontBytes : Mip → List ℕ → List ℕ
 frontBytes m d = leadBytes m (length d) ++ d
 
--- the whole packet: the CRC is over all bytes before it, and stuffing fills up to 188
+-- the whole packet: with its CRC, and stuffing up to 188
 unfoldable pub mipBytes : Mip → List ℕ → List ℕ
-mipBytes m d =
-    (frontBytes m d ++ bytes 4 (crcOf (frontBytes m d))) ++ replicate (188 - crcEnd (length d)) 0xFF
+mipBytes m d = sealed (frontBytes m d) ++ replicate (188 - crcEnd (length d)) 0xFF
 
 -- a field is too wide for its bits (01, refusal 38)
 unfoldable pub fieldWide : Mip → ℕ → Bool

@@ -82,8 +82,7 @@ pub fn write(m: Mip, addressing: &[u8], out: &mut [u8]) -> Written
     let end = 21 + n;
     lay_lead(out, m, n);
     fields::copy(out, 21, n, addressing, 0);
-    let crc = crc::crc(&out[..end]);
-    fields::store_at(out, end, 4, crc as u64);
+    crc::seal(out, end);
     let after = end + 4;
     fields::fill(out, after, 188 - after, 0xff);
     Written {

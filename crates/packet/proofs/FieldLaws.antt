@@ -1,13 +1,11 @@
 -- Where the header's fields lie in a slice, and what the two refusal lists say once they are passed.
 -- Assumes nothing.
-use mathlib.Core.Path.{_≡_, refl, sym, ap, ap₂, _∙_}
-use mathlib.Core.Bool.{Bool, true, false, not}
+use mathlib.Core.Path.{_≡_, refl, sym, ap, _∙_}
+use mathlib.Core.Bool.{true, false}
 use mathlib.Core.List.{List, [], _∷_, _++_}
 use Prim.Native.Nat.{ℕ, _+_, _-_, _*_, _/_, _%_, _^_, _≤_, _<_}
-use native.Mathlib.Nat.{add-zero}
 use native.Mathlib.Omega.{arith}
 use lib.ListN.{length, getD, take, drop}
-use lib.Pow.{low}
 use borrow.Author.Tests.{ltb-false, eqb-true, not-false}
 use Rattle.crc.specs.Crc.{crcHolds}
 use Rattle.fields.specs.Formats.{unpack, Fit}

@@ -2,27 +2,27 @@
 -- read gives the bytes.
 -- Assumes nothing.
 use mathlib.Core.Path.{_≡_, refl, sym, ap, ap₂, _∙_, subst}
-use mathlib.Core.Bool.{Bool, true, false, not}
-use mathlib.Core.List.{List, [], _∷_, _++_, append-assoc}
-use Prim.Native.Nat.{ℕ, _+_, _-_, _*_, _/_, _%_, _^_, _≤_, _<_}
-use native.Mathlib.Nat.{zero-add}
+use mathlib.Core.Bool.{true, not}
+use mathlib.Core.List.{List, [], _∷_, _++_}
+use Prim.Native.Nat.{ℕ, _+_, _-_, _^_, _≤_, _<_}
 use native.Mathlib.Omega.{arith}
 use lib.ListN.{length, getD, take, length-append}
 use lib.Seq.{take-at}
 use borrow.Author.Tests.{le-ltb, eq-eqb}
 use Rattle.crc.specs.Crc.{crcOf, crcHolds}
-use Rattle.crc.proofs.OwnLaws.{holds-own, holds-only}
-use Rattle.fields.specs.Formats.{span, pack, unpack, Fit, tooWide}
+use Rattle.crc.specs.Sealed.{sealed}
+use Rattle.crc.proofs.OwnLaws.{length-sealed, bytes-sealed, sealed-append, holds-own, holds-only}
+use Rattle.fields.specs.Formats.{pack, unpack, Fit}
 use Rattle.fields.specs.Numbers.{Bytes, number, bytes}
 use Rattle.fields.specs.Parts.{part, numberAt, overlay}
 use Rattle.fields.proofs.FormatLaws.{pack-lt, pack-unpack, unpack-pack, unpack-fit, fit-not-wide}
 use Rattle.fields.proofs.NumberLaws.{number-bytes, number-lt, bytes-number, length-bytes, bytes-are, bytes-append}
-use Rattle.fields.proofs.PartLaws.{number-at, length-part, part-bytes, part-add, part-whole, part-front, part-behind, take-front}
+use Rattle.fields.proofs.PartLaws.{number-at, length-part, part-bytes, part-add, part-front, part-behind, take-front}
 use Rattle.refusals.specs.Checks.{first}
 use Rattle.refusals.specs.Answers.{answer}
 use Rattle.refusals.proofs.CheckLaws.{first-zero}
 use Rattle.refusals.proofs.AnswerLaws.{answer-accepted, answer-refused, answer-shows, written-accepted, written-refused, written-shows}
-use Rattle.packet.proofs.FieldLaws.{payload-len, size-field, Readable, readable, Writable, writable}
+use Rattle.packet.proofs.FieldLaws.{size-field, Readable, readable, Writable, writable}
 use Rattle.packet.specs.Layout.{header, reservedType, payloadBytes, totalOf, padSet, sizeOf}
 use Rattle.packet.specs.Read.{field, headerOf, payloadOf, readChecks, noHeader, readOf, payloadRead}
 use Rattle.packet.specs.Write.{fieldsOf, frontBytes, packetBytes, writeChecks, writeOf}
@@ -74,14 +74,19 @@ module _ (h : Header) (payload : List ℕ) where
   -- the header's six bytes, the payload, the four of the CRC
   three : packetBytes h payload ≡ front ++ (payload ++ crc4)
   unfolding packetBytes frontBytes
-  three = append-assoc front payload crc4
+  three = sealed-append front payload
+
+  pub length-front : length (frontBytes h payload) ≡ 6 + length payload
+  unfolding frontBytes
+  length-front = length-append front payload ∙ ap (λ (k : ℕ). k + length payload) (length-bytes 6 _)
 
   pub length-packet : length (packetBytes h payload) ≡ 10 + length payload
-  length-packet = ap length three ∙ simp (length-append, length-bytes) (omega arith)
+  unfolding packetBytes
+  length-packet = length-sealed (frontBytes h payload) ∙ omega (arith, length-front)
 
   packet-bytes : Bytes payload → Bytes (packetBytes h payload)
-  packet-bytes b =
-      rw three (bytes-append front (payload ++ crc4) (bytes-are 6 _) (bytes-append payload crc4 b (bytes-are 4 _)))
+  unfolding packetBytes frontBytes
+  packet-bytes b = bytes-sealed (front ++ payload) (bytes-append front payload (bytes-are 6 _) b)
 
   crc-holds : crcHolds (packetBytes h payload) ≡ true
   unfolding packetBytes
@@ -190,24 +195,13 @@ module _ (s : List ℕ) (b : Bytes s) (r : Readable s) where
       ∙ ap (λ (k : ℕ). bytes k (number (part 0 6 s))) (sym length-six)
       ∙ bytes-number (part 0 6 s) (part-bytes 0 6 s b)
 
-  front-same : frontBytes (headerOf s) (payloadOf s) ≡ part 0 (6 + n) s
+  front-same : frontBytes (headerOf s) (payloadOf s) ≡ take (6 + n) s
   unfolding frontBytes payloadOf
-  front-same = ap (λ (l : List ℕ). l ++ part 6 n s) head-same ∙ sym (part-add 0 6 n s)
-
-  -- all but the CRC, and the CRC
-  two : s ≡ part 0 (6 + n) s ++ part (6 + n) 4 s
-  two =
-      let e : length s ≡ 6 + n + 4 = size-same′ ∙ omega arith in
-      sym (part-whole s) ∙ ap (λ (k : ℕ). part 0 k s) e ∙ part-add 0 (6 + n) 4 s ∙ ap (λ (k : ℕ). part 0 (6 + n) s ++ part k 4 s) (zero-add (6 + n))
+  front-same = ap (λ (l : List ℕ). l ++ part 6 n s) head-same ∙ sym (part-add 0 6 n s) ∙ unfold part in refl
 
   packet-same : packetBytes (headerOf s) (payloadOf s) ≡ s
   unfolding packetBytes
-  packet-same =
-      ap (λ (l : List ℕ). l ++ bytes 4 (crcOf l)) front-same
-      ∙ ap (λ (l : List ℕ). part 0 (6 + n) s ++ l)
-      (sym (holds-only (part 0 (6 + n) s) (part (6 + n) 4 s) (part-bytes (6 + n) 4 s b)
-      (length-part (6 + n) 4 s (omega (arith, size-same′))) (ap crcHolds (sym two) ∙ r .crc)))
-      ∙ sym two
+  packet-same = ap sealed front-same ∙ holds-only (6 + n) s b (size-same′ ∙ omega arith) (r .crc)
 
   passes-write : (out : List ℕ) → length s ≤ length out → first (writeChecks (headerOf s) (payloadOf s) (length out)) ≡ 0
   unfolding writeChecks headerOf payloadOf

@@ -1,13 +1,13 @@
 -- Reading a T2-MI packet (01: 18, 19, 14, 20, 21, 22 in this order).
 use Prim.Native.Nat.{ℕ}
-use mathlib.Core.Bool.{Bool, cond, not}
+use mathlib.Core.Bool.{Bool, not}
 use mathlib.Core.List.{List, [], _∷_}
 use lib.Dec.{eqb, ltb}
 use lib.ListN.{length, getD}
 use Rattle.crc.specs.Crc.{crcHolds}
 use Rattle.fields.specs.Formats.{unpack}
 use Rattle.fields.specs.Parts.{part, numberAt}
-use Rattle.refusals.specs.Checks.{Check, _when_, first}
+use Rattle.refusals.specs.Checks.{Check, _when_}
 use Rattle.refusals.specs.Answers.{answer}
 use Rattle.packet.specs.Layout.{header, reservedType, payloadBytes, padSet, sizeOf}
 use Rattle.packet.specs.declared.Header.{Header}

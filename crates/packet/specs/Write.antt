@@ -1,10 +1,10 @@
 -- Writing a T2-MI packet (01: 21, 38, 19, 22, 16 in this order).
 use Prim.Native.Nat.{ℕ}
-use mathlib.Core.Bool.{Bool, not}
+use mathlib.Core.Bool.{not}
 use mathlib.Core.List.{List, [], _∷_, _++_}
 use lib.Dec.{eqb, ltb}
 use lib.ListN.{length}
-use Rattle.crc.specs.Crc.{crcOf}
+use Rattle.crc.specs.Sealed.{sealed}
 use Rattle.fields.specs.Formats.{pack, tooWide}
 use Rattle.fields.specs.Numbers.{bytes}
 use Rattle.refusals.specs.Checks.{Check, _when_}
@@ -20,9 +20,9 @@ fieldsOf h = h .kind ∷ h .count ∷ h .frame ∷ 0 ∷ h .stream ∷ h .bits �
 unfoldable pub frontBytes : Header → List ℕ → List ℕ
 frontBytes h payload = bytes 6 (pack header (fieldsOf h)) ++ payload
 
--- the whole packet: the CRC is over all bytes before it
+-- the whole packet, with its CRC
 unfoldable pub packetBytes : Header → List ℕ → List ℕ
-packetBytes h payload = frontBytes h payload ++ bytes 4 (crcOf (frontBytes h payload))
+packetBytes h payload = sealed (frontBytes h payload)
 
 -- `room` is how many bytes the output has
 unfoldable pub writeChecks : Header → List ℕ → ℕ → List Check

@@ -2,7 +2,7 @@
 use refusals::Written;
 ghost use mathlib.Core.Path.{_≡_};
 ghost use Prim.Native.Nat.{_+_, _%_};
-ghost use lib.ListN.{length, drop, getD};
+ghost use lib.ListN.{drop};
 ghost use Rattle.fields.specs.Formats.{pack, tooWide};
 ghost use Rattle.refusals.specs.Checks.{first};
 ghost use Rattle.packet.specs.Layout.{header, reservedType, payloadBytes, totalOf, padSet, sizeOf};
@@ -243,8 +243,7 @@ pub fn write(h: Header, payload: &[u8], out: &mut [u8]) -> Written
     let front = 6 + n;
     fields::store_at(out, 0, 6, header_number(h));
     fields::copy(out, 6, n, payload, 0);
-    let crc = crc::crc(&out[..front]);
-    fields::store_at(out, front, 4, crc as u64);
+    crc::seal(out, front);
     let bytes = (front + 4) as u32;
     Written { refusal: 0, bytes }
 }
