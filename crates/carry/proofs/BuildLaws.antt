@@ -1,18 +1,18 @@
 -- How a transport packet is built: header, field, pointer and bytes laid one after the other over bytes of 0xFF.
 -- Assumes nothing.
 use mathlib.Core.Path.{_≡_, refl, sym, ap, ap₂, _∙_}
-use mathlib.Core.List.{List, [], _∷_, _++_, append-assoc, append-nil}
+use mathlib.Core.List.{List, [], _∷_, _++_, append-assoc}
 use Prim.Native.Nat.{ℕ, zero, suc, _+_, _-_, _/_, _%_, _≤_, _<_}
-use native.Mathlib.Nat.{zero-add, add-zero, mod-eq-of-lt}
+use native.Mathlib.Nat.{zero-add}
 use native.Mathlib.Omega.{arith}
 use lib.ListN.{length, drop, replicate, length-append, length-replicate, replicate-append-replicate}
 use Rattle.fields.specs.Formats.{pack, unpack}
 use Rattle.fields.specs.Numbers.{bytes}
-use Rattle.fields.specs.Parts.{part, overlay, storedAt}
-use Rattle.fields.proofs.NumberLaws.{bytes-cons, length-bytes}
-use Rattle.fields.proofs.PartLaws.{length-part, overlay-is, overlay-none, overlay-next, overlay-whole, length-overlay, drop-overlay, stored-at}
+use Rattle.fields.specs.Parts.{overlay, storedAt}
+use Rattle.fields.proofs.NumberLaws.{length-bytes}
+use Rattle.fields.proofs.PartLaws.{overlay-is, overlay-none, overlay-next, overlay-whole, length-overlay, stored-at}
 use Rattle.transport.specs.Header.{header}
-use Rattle.transport.specs.Load.{adaptation, controlFor, headBytes, transportOf, plain, start}
+use Rattle.transport.specs.Load.{adaptation, controlFor, headBytes}
 use Rattle.transport.proofs.LoadLaws.{length-adaptation}
 use Rattle.carry.specs.Building.{blank, fieldHead}
 

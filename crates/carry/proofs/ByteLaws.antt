@@ -1,10 +1,10 @@
 -- The loads over the batch's bytes are the loads over its packets, and how they unfold, transport packet by transport packet.
 -- Assumes nothing.
-use mathlib.Core.Path.{_≡_, refl, sym, ap, ap₂, _∙_}
-use mathlib.Core.Bool.{Bool, true, false, cond, _&&_}
+use mathlib.Core.Path.{_≡_, refl, sym, ap, _∙_}
+use mathlib.Core.Bool.{true, false}
 use mathlib.Core.List.{List, [], _∷_, _++_, append-assoc, append-nil}
 use Prim.Native.Nat.{ℕ, zero, suc, _+_, _-_, _≤_, _<_, min}
-use native.Mathlib.Nat.{add-zero, zero-add, add-assoc, min-eq-left, min-eq-right}
+use native.Mathlib.Nat.{add-zero, zero-add, add-assoc, min-eq-left}
 use native.Mathlib.Omega.{arith}
 use lib.Dec.{leb, ltb, eqb}
 use lib.ListN.{length, take, drop, length-append, length-drop, length-take, drop-of-length-le}
@@ -17,7 +17,7 @@ use Rattle.packet.proofs.CutLaws.{joined-append}
 use Rattle.packet.proofs.LayoutLaws.{size-least, size-append}
 use Rattle.transport.specs.Load.{Load, plain, start}
 use Rattle.transport.proofs.LoadLaws.{Sound, sound-plain, sound-start}
-use Rattle.carry.specs.Loads.{Gone, goneOf, follows, loadsBy, loadsOf}
+use Rattle.carry.specs.Loads.{Gone, goneOf, loadsBy, loadsOf}
 use Rattle.carry.specs.OnBytes.{leftBy, leftOf, planOf, loadFor, bytesBy, loadsFrom}
 use Rattle.carry.specs.declared.Plan.{Plan}
 use Rattle.carry.proofs.LoadLaws.{Goes, evenly, cut, goes, whole-long, joined-more, loads-start, loads-none, loads-plain}

@@ -1,7 +1,6 @@
 -- What the writer's transport packets carry, as a relation: a reader's part can be proved of it without the writer's
 -- recursion, and two batches one after the other are one flow.
 -- Assumes nothing.
-use mathlib.Core.Path.{_≡_, refl, sym, ap, _∙_}
 use mathlib.Core.List.{List, [], _∷_, _++_, append-assoc}
 use Prim.Native.Nat.{ℕ, _≤_, _<_}
 use native.Mathlib.Omega.{arith}

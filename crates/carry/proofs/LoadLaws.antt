@@ -2,20 +2,19 @@
 -- of the packet under way, or all of them).
 -- Assumes nothing.
 use mathlib.Core.Path.{_≡_, refl, sym, ap, _∙_, subst}
-use mathlib.Core.Bool.{Bool, true, false, cond, _&&_}
-use mathlib.Core.List.{List, [], _∷_, _++_, append-assoc, append-nil}
+use mathlib.Core.Bool.{Bool, true, false, _&&_}
+use mathlib.Core.List.{List, [], _∷_, _++_, append-assoc}
 use Prim.Native.Nat.{ℕ, zero, suc, _+_, _-_, _≤_, _<_, min}
 use native.Mathlib.Omega.{arith}
 use lib.Dec.{leb, eqb}
 use lib.ListN.{length, take, drop, length-append, length-take, length-drop, take-append-drop, drop-of-length-le}
 use lib.Seq.{take-all, take-nil, take-append-add, take-append-le, length-take-le}
-use borrow.Author.Tests.{le-leb, lt-leb, leb-true, leb-false, eq-eqb, ne-eqb, eqb-true, eqb-false}
+use borrow.Author.Tests.{le-leb, leb-true, leb-false, ne-eqb, eqb-true, eqb-false}
 use Rattle.fields.proofs.Cases.{cases, and-left}
-use Rattle.packet.specs.Layout.{sizeOf}
 use Rattle.packet.specs.Cut.{Whole, AllWhole, joined}
 use Rattle.packet.proofs.CutLaws.{joined-append}
 use Rattle.packet.proofs.LayoutLaws.{size-least}
-use Rattle.transport.specs.Load.{Load, plain, start}
+use Rattle.transport.specs.Load.{plain, start}
 use Rattle.carry.specs.Loads.{Gone, goneOf, follows, loadsBy, loadsOf}
 use Rattle.carry.proofs.Flow.{Way, none, under, Flow, done, on, end, even, split}
 

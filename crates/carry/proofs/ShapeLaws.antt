@@ -1,7 +1,7 @@
 -- What a batch's transport packets are goes by the lengths of its packets alone; and the bench rows of 01 hold.
 -- Assumes nothing.
 use mathlib.Core.Path.{_≡_, refl, sym, ap, ap₂, _∙_}
-use mathlib.Core.Bool.{Bool, true, false, cond, _&&_, and-false}
+use mathlib.Core.Bool.{Bool, true, _&&_, and-false}
 use mathlib.Core.List.{List, [], _∷_, _++_, map}
 use Prim.Native.Nat.{ℕ, zero, suc, _+_, _-_, _*_, _/_, _≤_, _<_, min}
 use native.Mathlib.Omega.{arith}
@@ -11,7 +11,6 @@ use lib.Seq.{length-take-le}
 use borrow.Author.Tests.{leb-true, leb-false, eqb-true, eqb-false, eq-eqb}
 use Rattle.fields.proofs.Cases.{cases, and-left}
 use Rattle.packet.specs.Cut.{AllWhole, joined}
-use Rattle.transport.specs.Load.{Load, plain, start}
 use Rattle.carry.specs.Loads.{Gone, goneOf, follows, loadsBy, loadsOf}
 use Rattle.carry.proofs.LoadLaws.{whole-long}
 use Rattle.carry.specs.Rows.{Shape, carries, begins, shapeOf, roomOf, sum, Rest, restOf, shapesBy, shapes, Row, rows, Holds, AllHold}
@@ -137,7 +136,7 @@ some-lengths : (ps : List (List ℕ)) → AllWhole ps → Some (map length ps)
 some-lengths [] w = tt
 some-lengths (p ∷ ps) w = (omega (arith, whole-long p (w .0)), some-lengths ps (w .1))
 
--- room for one transport packet for each 183 bytes, and one more, is always enough
+-- A theorem: room for one transport packet for each 183 bytes, and one more, is always enough
 pub needs-few : (ps : List (List ℕ)) → AllWhole ps → length (loadsOf ps) ≤ length (joined ps) / 183 + 1
 needs-few ps w =
     let f : 183 * length (shapes (map length ps)) ≤ 0 + sum (map length ps) + 182 = unfold shapes in few-by (sum (map length ps)) 0 (map length ps) (some-lengths ps w) in

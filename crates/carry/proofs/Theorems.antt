@@ -1,28 +1,28 @@
 -- The theorems of the batch writer, each by the flow of its loads.
 -- Assumes nothing.
-use mathlib.Core.Path.{_≡_, refl, sym, ap, ap₂, _∙_, subst}
-use mathlib.Core.Bool.{Bool, true, false}
+use mathlib.Core.Path.{_≡_, refl, sym, ap, ap₂, _∙_}
+use mathlib.Core.Bool.{false}
 use mathlib.Core.Logic.{_⊎_, inl, inr, ⊎-elim}
 use mathlib.Core.List.{List, [], _∷_, _++_, append-assoc}
-use Prim.Native.Nat.{ℕ, zero, suc, _+_, _-_, _%_, _≤_, _<_}
+use Prim.Native.Nat.{ℕ, suc, _+_, _-_, _%_, _≤_, _<_}
 use native.Mathlib.Nat.{add-assoc, add-zero}
 use native.Mathlib.Omega.{arith}
-use lib.Dec.{eqb, ltb}
+use lib.Dec.{ltb}
 use lib.ListN.{length, length-append}
 use borrow.Author.Tests.{ltb-false, not-false, eqb-true}
 use Rattle.fields.proofs.Cases.{cases, true≢false}
-use Rattle.packet.specs.Cut.{Whole, AllWhole, Cut, joined}
+use Rattle.packet.specs.Cut.{AllWhole, Cut, joined}
+use Rattle.packet.proofs.BatchLaws.{sound}
 use Rattle.packet.proofs.CutLaws.{cut-nil, joined-append}
-use Rattle.transport.specs.Header.{syncOf, pidOf, countOf, carriedBy}
 use Rattle.transport.specs.Tests.{pidOutside}
 use Rattle.transport.specs.Load.{Load, plain, start, loadBytes, transportOf}
-use Rattle.transport.proofs.LoadLaws.{Sound, sound-plain, sound-start, transport-length, Found, found}
+use Rattle.transport.proofs.LoadLaws.{Sound, sound-plain, sound-start, transport-length, found}
 use Rattle.carry.specs.Loads.{loadsBy, loadsOf}
 use Rattle.carry.specs.Carry.{packetsOf, numbered, loads}
-use Rattle.carry.specs.Theorems.{Packet, Packets, streamOf, beginnings, Among, Right, AllRight}
-use Rattle.carry.proofs.Flow.{Way, none, under, Flow, done, on, end, even, split}
+use Rattle.carry.specs.Theorems.{Packets, streamOf, beginnings, Among, AllRight}
+use Rattle.carry.proofs.Flow.{Flow, done, on, end, even, split}
 use Rattle.carry.proofs.LoadLaws.{flows-of, joined-more, whole-long}
-use Rattle.carry.proofs.BatchLaws.{Carriable, sound}
+use Rattle.carry.proofs.BatchLaws.{Carriable}
 
 -- ---- every load is sound
 
@@ -229,7 +229,7 @@ unfolding numbered
 length-numbered pid c [] = refl
 length-numbered pid c (l ∷ ls) = ap suc (length-numbered pid ((c + 1) % 16) ls)
 
--- an empty batch gives no packets
+-- A theorem: an empty batch gives no packets
 pub none-carried : loads [] ≡ []
 unfolding loadsOf loadsBy joined
 none-carried = ap (λ (c : Cut). loadsOf (c .packets)) cut-nil

@@ -1,25 +1,21 @@
 -- The batch writer: what it refuses, what it answers, and what the output then holds.
 use Prim.Native.Nat.{ℕ, _+_, _*_, _%_}
-use mathlib.Core.Bool.{Bool, cond, not}
+use mathlib.Core.Bool.{not}
 use mathlib.Core.List.{List, [], _∷_}
 use lib.Dec.{eqb, ltb}
 use lib.ListN.{length}
 use Rattle.fields.specs.Parts.{overlay}
 use Rattle.refusals.specs.Checks.{Check, _when_}
 use Rattle.refusals.specs.Answers.{answer}
-use Rattle.packet.specs.Cut.{cut, joined}
+use Rattle.packet.specs.Cut.{cut, batchFault, joined}
 use Rattle.transport.specs.Load.{Load, transportOf}
 use Rattle.transport.specs.Tests.{pidOutside}
-use Rattle.carry.specs.Loads.{follows, loadsOf}
+use Rattle.carry.specs.Loads.{loadsOf}
 use Rattle.carry.specs.declared.Carried.{Carried}
 
 -- the batch, cut into its packets
 abbrev pub packetsOf : List ℕ → List (List ℕ)
 packetsOf batch = cut batch .packets
-
--- packet by packet: a wrong CRC (14), or fewer bytes left than a whole packet needs (13); 0 where all are good
-unfoldable pub batchFault : List ℕ → ℕ
-batchFault batch = cond (cut batch .bad) 14 (cond (follows (cut batch .rest)) 13 0)
 
 -- the transport packets of loads, their counts rising by 1 modulo 16
 unfoldable pub numbered : ℕ → ℕ → List Load → List (List ℕ)

@@ -1,7 +1,7 @@
 -- The same loads, as a program goes over the batch's bytes: at each place it knows how many bytes are left of the packet
 -- under way. Contracts of private functions cite this; the writer's own contract does not.
 use Prim.Native.Nat.{ℕ, zero, suc, _-_, min}
-use mathlib.Core.Bool.{Bool, true, false, cond, _&&_}
+use mathlib.Core.Bool.{true, false, cond, _&&_}
 use mathlib.Core.List.{List, [], _∷_}
 use lib.Dec.{leb, ltb, eqb}
 use lib.ListN.{length, take, drop}

@@ -1,7 +1,7 @@
 -- What the writer's transport packets are, in words that a reader can hold against 01: the theorems of proofs/Theorems say
 -- that they are so.
 use mathlib.Core.Path.{_≡_}
-use mathlib.Core.Bool.{true, false}
+use mathlib.Core.Bool.{false}
 use mathlib.Core.Logic.{_⊎_}
 use mathlib.Core.List.{List, [], _∷_}
 use Prim.Native.Nat.{ℕ, _+_, _%_, _≤_, _<_}

@@ -4,17 +4,15 @@ ghost use mathlib.Core.Bool.{_&&_};
 ghost use mathlib.Core.List.{[], _∷_};
 ghost use Prim.Native.Nat.{_+_, _-_, _*_, _%_, _≤_, _<_, min};
 ghost use lib.Dec.{leb, ltb};
-ghost use lib.ListN.{length, drop, replicate};
+ghost use lib.ListN.{length, drop};
 ghost use Rattle.fields.specs.Formats.{pack};
 ghost use Rattle.fields.specs.Parts.{part, overlay};
 ghost use Rattle.refusals.specs.Checks.{first};
-ghost use Rattle.packet.specs.Cut.{joined};
 ghost use Rattle.transport.specs.Header.{header};
 ghost use Rattle.transport.specs.Load.{plain, start, controlFor, headBytes, transportOf};
 ghost use Rattle.carry.specs.Building.{blank, fieldHead, Laid};
-ghost use Rattle.carry.specs.Carry.{batchFault, numbered, carryChecks, carryOf};
+ghost use Rattle.carry.specs.Carry.{carryChecks, carryOf};
 ghost use Rattle.carry.specs.OnBytes.{leftOf, planOf, loadFor, loadsFrom};
-use packet::Judged;
 
 // What carrying a batch gives: how many transport packets were written, and the count to go on with.
 #[repr(C)]
@@ -26,16 +24,16 @@ pub struct Carried {
 
 // The next transport packet: whether it has a start, how many bytes of the batch it carries, and how many are then left of
 // the packet under way.
-pub struct Plan {
-    pub starts: bool,
-    pub bytes: usize,
-    pub left: usize,
+struct Plan {
+    starts: bool,
+    bytes: usize,
+    left: usize,
 }
 
 // What was written: so many transport packets, and the count to go on with.
-pub struct Done {
-    pub packets: usize,
-    pub count: u8,
+struct Done {
+    packets: usize,
+    count: u8,
 }
 
 // The lesser of two numbers.
@@ -66,21 +64,6 @@ fn has_start(r: usize, rest: usize) -> bool
         return false;
     }
     r <= 182
-}
-
-// The first fault of a batch, packet by packet: 13, 14, or 0.
-fn batch_fault(batch: &[u8]) -> u32
-    ensures { λ r. ⌜ r ≡ batchFault (now (batch .entry)) ⌝ }
-{
-    let mut at = 0;
-    while at < batch.len() {
-        match packet::judge(batch, at) {
-            Judged::Short => return refusals::BATCH_CUT,
-            Judged::Bad => return refusals::CRC_WRONG,
-            Judged::Good(size) => at += size,
-        }
-    }
-    0
 }
 
 // How many bytes are left of the packet that n bytes of the batch end in, from a packet's first byte on.
@@ -273,7 +256,7 @@ fn refusal(pid: u16, first_count: u8, batch: &[u8], room: usize) -> u32
     if 65536 < batch.len() {
         return refusals::BATCH_LONG;
     }
-    let fault = batch_fault(batch);
+    let fault = packet::batch_fault(batch);
     if fault != 0 {
         return fault;
     }

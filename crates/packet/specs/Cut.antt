@@ -2,11 +2,12 @@
 -- reader stand on this definition. Only length and CRC are judged.
 use Prim.Native.Nat.{ℕ, zero, suc}
 use mathlib.Core.Path.{_≡_}
-use mathlib.Core.Bool.{Bool, true, false, cond}
+use mathlib.Core.Bool.{Bool, true, false, cond, not}
 use mathlib.Core.List.{List, [], _∷_, _++_}
-use lib.Dec.{leb}
+use lib.Dec.{eqb, leb}
 use lib.ListN.{length, take, drop}
 use Rattle.crc.specs.Crc.{crcHolds}
+use Rattle.refusals.specs.Checks.{_when_, first}
 use Rattle.packet.specs.Layout.{sizeOf}
 use Rattle.packet.specs.declared.Judged.{Judged}
 use Rattle.packet.specs.declared.Judged.the-variants.{Short, Bad, Good}
@@ -49,6 +50,11 @@ cutBy (suc k) l =
 -- no bytes hold more packets than there are bytes
 unfoldable pub cut : List ℕ → Cut
 cut l = cutBy (length l) l
+
+-- what is wrong with bytes that should be whole packets, packet by packet: a wrong CRC (14), or fewer bytes left than a whole
+-- packet needs (13); 0 where all are good
+unfoldable pub batchFault : List ℕ → ℕ
+batchFault l = first (14 when cut l .bad ∷ 13 when not (eqb (length (cut l .rest)) 0) ∷ [])
 
 -- packets one after another
 unfoldable pub joined : List (List ℕ) → List ℕ

@@ -8,7 +8,7 @@ ghost use Rattle.refusals.specs.Checks.{first};
 ghost use Rattle.packet.specs.Layout.{header, reservedType, payloadBytes, totalOf, padSet, sizeOf};
 ghost use Rattle.packet.specs.Read.{headerOf, reservedSet, readChecks, readOf, payloadRead};
 ghost use Rattle.packet.specs.Write.{fieldsOf, writeChecks, writeOf};
-ghost use Rattle.packet.specs.Cut.{judgeOf};
+ghost use Rattle.packet.specs.Cut.{judgeOf, batchFault};
 
 // The fields of a header, in its order: packet_type, packet_count, superframe_idx, t2mi_stream_id, payload_len.
 pub struct Header {
@@ -101,6 +101,21 @@ pub fn judge(s: &[u8], at: usize) -> Judged
         return Judged::Good(size);
     }
     Judged::Bad
+}
+
+// The first fault of packets back to back, packet by packet: 13, 14, or 0.
+pub fn batch_fault(batch: &[u8]) -> u32
+    ensures { λ r. ⌜ r ≡ batchFault (now (batch .entry)) ⌝ }
+{
+    let mut at = 0;
+    while at < batch.len() {
+        match judge(batch, at) {
+            Judged::Short => return refusals::BATCH_CUT,
+            Judged::Bad => return refusals::CRC_WRONG,
+            Judged::Good(size) => at += size,
+        }
+    }
+    0
 }
 
 // The header's fields of s, zeros where s has no header. Each lies as many bits from the end as the fields behind it take.

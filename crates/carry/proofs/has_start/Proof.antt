@@ -1,8 +1,6 @@
 -- `carry::has_start` meets its contract: the two tests, one after the other.
 -- Assumes nothing.
-use borrow.Author.Needs.{needs}
 use borrow.Author.Tests.{lt-ltb, le-ltb}
-use mathlib.Core.Path.{_≡_}
 use Rattle.carry.proofs.has_start.Statement.{statement}
 use Rattle.carry.proofs.has_start.Tie as tie
 

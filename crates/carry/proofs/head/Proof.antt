@@ -1,7 +1,7 @@
 -- `carry::head` meets its contract: what the two calls lay is the head over bytes of 0xFF.
 -- Assumes nothing.
 use borrow.Author.Needs.{needs}
-use mathlib.Core.Path.{_≡_, ap, _∙_}
+use mathlib.Core.Path.{ap, _∙_}
 use mathlib.Core.List.{[], _∷_}
 use Prim.Native.Nat.{ℕ}
 use Rattle.fields.specs.Formats.{pack}

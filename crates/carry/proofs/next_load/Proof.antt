@@ -5,16 +5,15 @@ use denote.Ref.{now}
 use lib.Dec.{leb, ltb}
 use lib.ListN.{length, drop, length-drop}
 use lib.Seq.{drop-drop}
-use mathlib.Core.Path.{_≡_, refl, sym, ap, ap₂, _∙_}
-use mathlib.Core.Bool.{Bool, true, false, _&&_}
-use mathlib.Core.List.{List, [], _∷_}
+use mathlib.Core.Path.{_≡_, sym, ap, ap₂, _∙_}
+use mathlib.Core.Bool.{true, false, _&&_}
+use mathlib.Core.List.{List}
 use borrow.Author.Tests.{ltb-true, leb-true}
 use Prim.Native.Nat.{ℕ, _+_, _-_, _≤_, _<_, min}
 use native.Mathlib.Omega.{arith}
 use Rattle.fields.proofs.Cases.{and-left, and-right}
 use Rattle.carry.proofs.ByteLaws.{plan-start}
 use Rattle.carry.specs.OnBytes.{leftOf, planOf}
-use Rattle.carry.specs.declared.Plan.{Plan}
 use Rattle.carry.proofs.next_load.Statement.{statement}
 use Rattle.carry.proofs.next_load.Tie as tie
 

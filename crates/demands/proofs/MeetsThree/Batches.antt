@@ -17,14 +17,15 @@ use Rattle.fields.proofs.PartLaws.{overlay-is}
 use Rattle.refusals.specs.Checks.{first}
 use Rattle.refusals.proofs.AnswerLaws.{answer-accepted}
 use Rattle.refusals.proofs.CheckLaws.{first-zero}
-use Rattle.packet.specs.Cut.{AllWhole, Cut, joined}
+use Rattle.packet.specs.Cut.{AllWhole, Cut, batchFault, joined}
 use Rattle.packet.proofs.LayoutLaws.{size-most}
+use Rattle.packet.proofs.BatchLaws.{fault-none}
 use Rattle.packet.proofs.CutLaws.{cut-all}
 use Rattle.transport.specs.Load.{Load, transportOf}
 use Rattle.transport.specs.Tests.{pidOutside}
 use Rattle.transport.proofs.LoadLaws.{Sound, transport-length}
 use Rattle.carry.specs.Loads.{follows, loadsOf}
-use Rattle.carry.specs.Carry.{Outcome, batchFault, numbered, loads, carryChecks, carryOf}
+use Rattle.carry.specs.Carry.{Outcome, numbered, loads, carryChecks, carryOf}
 use Rattle.carry.proofs.BatchLaws.{carriable}
 use Rattle.carry.proofs.Flow.{Flow, done, flow-append}
 use Rattle.carry.proofs.LoadLaws.{flows-of}
@@ -73,8 +74,7 @@ module _ (pid c : ℕ) (b : Batch) (good : pidOutside pid ≡ false) (k : c < 16
   loads-are = ap (λ (x : Cut). loadsOf (x .packets)) (cut-all (b .packets) (f .whole))
 
   no-fault : batchFault batch ≡ 0
-  unfolding batchFault
-  no-fault = rw (cut-all (b .packets) (f .whole))
+  no-fault = fault-none (b .packets) (f .whole)
 
   not-refused : first (carryChecks pid c batch (length (b .out))) ≡ 0
   unfolding carryChecks

@@ -14,13 +14,14 @@ use Rattle.fields.proofs.Cases.{cases, true≢false}
 use Rattle.refusals.specs.Checks.{first}
 use Rattle.refusals.proofs.AnswerLaws.{answer-accepted}
 use Rattle.packet.specs.Cut.{joined}
+use Rattle.packet.proofs.BatchLaws.{sound}
 use Rattle.transport.specs.Header.{pointerOf}
 use Rattle.transport.specs.Load.{Load, plain, start, headBytes, transportOf}
 use Rattle.transport.specs.Tests.{pidOutside}
 use Rattle.transport.proofs.LoadLaws.{Sound, Found, found, length-head, head-payload}
 use Rattle.carry.specs.Carry.{Outcome, packetsOf, loads, numbered, carryChecks, carryOf}
 use Rattle.carry.specs.Theorems.{Packets}
-use Rattle.carry.proofs.BatchLaws.{Carriable, carriable, sound}
+use Rattle.carry.proofs.BatchLaws.{Carriable, carriable}
 use Rattle.carry.proofs.LoadLaws.{flows-of}
 use Rattle.carry.proofs.Theorems.{AllSound, flow-sound, pid-small, carried-packets, carried-bytes, starts-right, length-numbered}
 use Rattle.gather.proofs.GatherLaws.{gather-taken}

@@ -15,12 +15,12 @@ use Rattle.fields.proofs.Cases.{and-left, and-right, true≢false}
 use Rattle.refusals.specs.Answers.{answer}
 use Rattle.crc.specs.Crc as crc
 use Rattle.packet.specs.Layout.{sizeOf}
-use Rattle.packet.specs.Cut.{Whole, judgeOf, cutBy, cut, joined}
+use Rattle.packet.specs.Cut.{Whole, judgeOf, cutBy, cut, batchFault, joined}
 use Rattle.transport.specs.Header as transport
 use Rattle.transport.specs.Tests.{pidOutside, fieldLong, pointerBeyond, transportChecks}
 use Rattle.transport.specs.Load.{plain, headBytes, transportOf}
 use Rattle.carry.specs.Loads.{goneOf, loadsBy, loadsOf}
-use Rattle.carry.specs.Carry.{batchFault, numbered, carryChecks, carryOf, Outcome}
+use Rattle.carry.specs.Carry.{numbered, carryChecks, carryOf, Outcome}
 use Rattle.gather.specs.State.{startOf, unfit, gatherChecks}
 use Rattle.gather.specs.Rules.{broughtBy, ruleOne, joining, upToStart, follows, rulesOn}
 use Rattle.gather.specs.Gather as gathering

@@ -9,6 +9,7 @@ use lib.Dec.{eqb}
 use lib.IntN.{ℤ, pos}
 use lib.ListN.{length, getD, replicate}
 use Rattle.crc.specs.Crc.{shift, bitAt, feed, run, crcOf, crcHolds}
+use Rattle.crc.specs.Sealed.{sealed}
 use Rattle.fields.specs.Formats.{pack, unpack, tooWide}
 use Rattle.fields.specs.Numbers.{number, bytes}
 use Rattle.fields.specs.Parts.{part, overlay, numberAt}
@@ -16,7 +17,7 @@ use Rattle.fields.specs.Signed.{signed}
 use Rattle.fields.proofs.Cases.{true≢false}
 use Rattle.refusals.specs.Answers.{Wrote, answer}
 use Rattle.packet.specs.Layout.{reservedType, padSet, sizeOf}
-use Rattle.packet.specs.Cut.{cut, cutBy, joined}
+use Rattle.packet.specs.Cut.{cut, cutBy, batchFault, joined}
 use Rattle.packet.specs.Read as packet
 use Rattle.packet.specs.Write as packetWriting
 use Rattle.packet.specs.declared.Header.{Header}
@@ -161,7 +162,7 @@ abbrev header-five : Header
 header-five = record { kind = 0; count = 5; frame = 0; stream = 0; bits = 0 }
 
 pub writes-nothing : Demand2 (writing unwritten) → ⊥
-unfolding packetWriting.writeChecks packetWriting.packetBytes packetWriting.frontBytes reservedType tooWide padSet crcOf run feed bitAt shift bytes pack unpack overlay
+unfolding packetWriting.writeChecks packetWriting.packetBytes packetWriting.frontBytes sealed reservedType tooWide padSet crcOf run feed bitAt shift bytes pack unpack overlay
 writes-nothing d =
     let z : _≡_ {A = ℕ} 9 5 = ap (λ (w : Wrote). getD (w .out) 1 0) (d .packets .writes header-five [] (replicate 10 9) refl) in
     omega arith
@@ -192,7 +193,7 @@ abbrev from-seven : ℕ → ℕ → List ℕ → List ℕ → carrying.Outcome
 from-seven pid firstCount batch out = record { answer = ours .carry pid firstCount batch out .answer; out = ours .carry pid 7 batch out .out }
 
 pub invents-transport-counts : Demand2 (carriedBy from-seven) → ⊥
-unfolding carrying.carryOf carrying.carryChecks carrying.batchFault carrying.numbered answer pidOutside cut cutBy joined sizeOf crcHolds crcOf run feed bitAt shift loadsOf loadsBy goneOf transportOf headBytes bytes pack unpack overlay
+unfolding carrying.carryOf carrying.carryChecks batchFault carrying.numbered answer pidOutside cut cutBy joined sizeOf crcHolds crcOf run feed bitAt shift loadsOf loadsBy goneOf transportOf headBytes bytes pack unpack overlay
 invents-transport-counts d =
     let z : _≡_ {A = ℕ} 0x37 0x30 = ap (λ (o : carrying.Outcome). getD (o .out) 3 0) (d .carriage .writes 0x1000 0 five (replicate 188 0) refl) in
     omega arith
@@ -242,7 +243,7 @@ abbrev long-and-five : List ℕ
 long-and-five = 0 ∷ 0 ∷ 0 ∷ 0 ∷ 0x0B ∷ 0x20 ∷ (replicate 356 0 ++ (0x27 ∷ 0x12 ∷ 0xE8 ∷ 0x76 ∷ five))
 
 pub starts-on-183 : Demand2 (carriedBy start-on-183) → ⊥
-unfolding carrying.carryOf carrying.carryChecks carrying.batchFault carrying.numbered answer pidOutside cut cutBy joined sizeOf crcHolds crcOf run feed bitAt shift loadsOf loadsBy goneOf transportOf headBytes bytes pack unpack overlay
+unfolding carrying.carryOf carrying.carryChecks batchFault carrying.numbered answer pidOutside cut cutBy joined sizeOf crcHolds crcOf run feed bitAt shift loadsOf loadsBy goneOf transportOf headBytes bytes pack unpack overlay
 starts-on-183 d =
     let z : _≡_ {A = ℕ} 0x50 0x10 = ap (λ (o : carrying.Outcome). getD (o .out) 189 0) (d .carriage .writes 0x1000 0 long-and-five (replicate 564 0) refl) in
     omega arith

@@ -1,4 +1,4 @@
--- `carry::batch_fault` meets its contract: the fault of what is left of the batch is the fault of all of it.
+-- `packet::batch_fault` meets its contract: the fault of what is left of the batch is the fault of all of it.
 -- Assumes nothing.
 use borrow.Author.Needs.{needs}
 use denote.Ref.{now}
@@ -8,13 +8,12 @@ use mathlib.Core.Path.{_≡_, refl, sym, ap, _∙_, subst}
 use mathlib.Core.List.{List}
 use Prim.Native.Nat.{ℕ, _+_, _-_, _≤_, _<_}
 use native.Mathlib.Omega.{arith}
-use Rattle.packet.specs.Cut.{judgeOf}
+use Rattle.packet.specs.Cut.{judgeOf, batchFault}
 use Rattle.packet.specs.declared.Judged.{Judged}
-use Rattle.packet.specs.declared.Judged.the-variants.{Short, Bad, Good}
-use Rattle.carry.proofs.BatchLaws.{fault-nil, faultBy, Lies, judged-as}
-use Rattle.carry.specs.Carry.{batchFault}
-use Rattle.carry.proofs.batch_fault.Statement.{statement}
-use Rattle.carry.proofs.batch_fault.Tie as tie
+use Rattle.packet.specs.declared.Judged.the-variants.{Good}
+use Rattle.packet.proofs.BatchLaws.{fault-nil, faultBy, Lies, judged-as}
+use Rattle.packet.proofs.batch_fault.Statement.{statement}
+use Rattle.packet.proofs.batch_fault.Tie as tie
 
 module _ (batch : List ℕ) (at : ℕ) (h : at < length batch) (j : Judged) (e : j ≡ judgeOf (drop at batch)) where
   rest : 0 < length (drop at batch)
