@@ -16,8 +16,9 @@ use Rattle.transport.specs.Tests.{pidOutside, fieldLong, pointerBeyond, transpo
 use Rattle.gather.specs.State.{unfit, gatherChecks}
 use Rattle.gather.specs.Rules.{broughtBy, ruleOne, upToStart, follows, rulesOn}
 use Rattle.gather.specs.Gather.{takenOf, gatherOf}
-use Rattle.lines.specs.Digits.{spellBy, spell, digits}
-use Rattle.lines.specs.Lines.{word, headLine, fieldsLine, lineBy, linesOf, lastLine}
+use Rattle.text.specs.Digits.{spellBy, spell, digits}
+use Rattle.text.specs.Laid.{word}
+use Rattle.lines.specs.Lines.{headLine, fieldsLine, lineBy, linesOf, lastLine}
 use Rattle.lines.specs.Listing.{capped, handedBy}
 use Rattle.lines.specs.Theorems.{calls, handedAll, losses, textOf, listingOf}
 use Rattle.lines.specs.Rows.{exampleTransport, exampleText}

@@ -23,8 +23,9 @@ use Rattle.packet.specs.declared.Packet.{Packet}
 use Rattle.packet.proofs.LayoutLaws.{size-least, size-take}
 use Rattle.packet.proofs.CutLaws.{cut-short, cut-bad, cut-good}
 use Rattle.packet.proofs.RoundTrips.{read-shows, read-accepted, read-refused}
-use Rattle.lines.specs.Lines.{space, newline, word, fieldsLine, refusedWord, refusedLine, lineBy, lineOf, linesOf, laid, appended}
-use Rattle.lines.proofs.LayLaws.{appended-fits, laid-at, laid-next, laid-nil, word-few}
+use Rattle.text.specs.Laid.{space, newline, word, laid, appended}
+use Rattle.lines.specs.Lines.{fieldsLine, refusedWord, refusedLine, lineBy, lineOf, linesOf}
+use Rattle.text.proofs.LayLaws.{appended-fits, laid-at, laid-next, laid-nil, word-few}
 
 -- ---- the two kinds of line
 

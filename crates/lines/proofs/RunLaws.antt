@@ -20,11 +20,12 @@ use Rattle.gather.specs.Gather.{Outcome, refusedOf, takenOf, gatherOf}
 use Rattle.gather.specs.declared.Reader.{Reader}
 use Rattle.gather.specs.declared.Gathered.{Gathered}
 use Rattle.gather.proofs.GatherLaws.{gather-refused, gather-taken}
-use Rattle.lines.specs.Lines.{space, newline, headLine, lineOf, linesOf, lastLine, Filled, laid, appended}
+use Rattle.text.specs.Laid.{space, newline, Filled, laid, appended}
+use Rattle.lines.specs.Lines.{headLine, lineOf, linesOf, lastLine}
 use Rattle.lines.specs.Listing.{listedPid, capped, bit, afterOf, handedBy, roomy, Stepped, listedOf, stepOf}
 use Rattle.lines.specs.Theorems.{calls, handedAll, losses, textOf, listingOf, Run, shown, flushed, Piece, stepOn, ranOn, Holds, fed, fedAll, begun, ended, transports, Ample}
 use Rattle.lines.specs.declared.Listing.{Listing}
-use Rattle.lines.proofs.LayLaws.{appended-fits, word-few}
+use Rattle.text.proofs.LayLaws.{appended-fits, word-few}
 use Rattle.lines.proofs.StepLaws.{step-full, step-goes, none-handed, taken-handed, handed-count, capped-same}
 
 -- ---- a call does not depend on what the output holds

@@ -23,10 +23,11 @@ use Rattle.gather.specs.declared.Gathered.{Gathered}
 use Rattle.gather.proofs.GatherLaws.{gather-refused, gather-taken}
 use Rattle.gather.proofs.StateLaws.{refusal-changes-nothing}
 use Rattle.gather.proofs.HandedLaws.{taken-cut}
-use Rattle.lines.specs.Lines.{linesOf, laid}
+use Rattle.text.specs.Laid.{laid}
+use Rattle.lines.specs.Lines.{linesOf}
 use Rattle.lines.specs.Listing.{capped, afterOf, handedBy, roomy, listedOf, stepOf}
 use Rattle.lines.specs.declared.Listing.{Listing}
-use Rattle.lines.proofs.LayLaws.{laid-at, laid-lines}
+use Rattle.text.proofs.LayLaws.{laid-at, laid-lines}
 
 -- ---- full, or not
 

@@ -1,5 +1,4 @@
 -- The listing's text (01, "Listing program").
-pub mod Digits
 pub mod Lines
 pub mod Listing
 pub mod Theorems

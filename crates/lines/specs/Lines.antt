@@ -1,25 +1,13 @@
 -- The lines of a listing, in ASCII (01, "Listing program"): a header, one line for each packet, and the totals. Numbers are
 -- decimal, single spaces stand between them, and each line ends with a newline.
-use Prim.Native.Nat.{ℕ, _+_}
+use Prim.Native.Nat.{ℕ}
 use mathlib.Core.Bool.{cond}
 use mathlib.Core.List.{List, [], _∷_, _++_}
 use lib.Dec.{eqb}
-use lib.ListN.{length}
-use Rattle.fields.specs.Parts.{overlay, inside}
 use Rattle.packet.specs.Read.{readOf}
 use Rattle.packet.specs.declared.Header.{Header}
 use Rattle.packet.specs.declared.Packet.{Packet}
-use Rattle.lines.specs.Digits.{digits}
-
-abbrev pub space : ℕ
-space = 32
-
-abbrev pub newline : ℕ
-newline = 10
-
--- a number, and what stands behind it
-unfoldable pub word : ℕ → ℕ → List ℕ
-word n end = digits n ++ (end ∷ [])
+use Rattle.text.specs.Laid.{space, newline, word}
 
 -- "type count frame stream bits"
 unfoldable pub headLine : List ℕ
@@ -68,18 +56,3 @@ gapsWord = 103 ∷ 97 ∷ 112 ∷ 115 ∷ space ∷ []
 -- the totals: packets handed out, and loss marks
 unfoldable pub lastLine : ℕ → ℕ → List ℕ
 lastLine packets gaps = packetsWord ++ (word packets space ++ (gapsWord ++ word gaps newline))
-
--- ---- lines in a lent buffer
-
--- where the next text goes, and what the buffer holds
-pub record Filled : Type 0 where
-  pub at : ℕ
-  pub lines : List ℕ
-
--- text at a place
-abbrev pub laid : List ℕ → ℕ → List ℕ → Filled
-laid text at lines = record { at = at + length text; lines = overlay at text lines }
-
--- the same where there is room for all of it, and else nothing
-unfoldable pub appended : List ℕ → ℕ → List ℕ → Filled
-appended text at lines = cond (inside at (length text) lines) (laid text at lines) (record { at = at; lines = lines })

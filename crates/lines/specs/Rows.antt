@@ -2,7 +2,8 @@
 use Prim.Native.Nat.{ℕ}
 use mathlib.Core.List.{List, [], _∷_, _++_}
 use lib.ListN.{replicate}
-use Rattle.lines.specs.Lines.{space, newline, headLine}
+use Rattle.text.specs.Laid.{space, newline}
+use Rattle.lines.specs.Lines.{headLine}
 
 -- type 0x20, count 5, superframe 1: the null stamp at 8 MHz
 abbrev stampPacket : List ℕ

@@ -1,4 +1,4 @@
--- What the theorems of the listing say: proofs/DigitLaws and proofs/RunLaws prove them of specs/Digits and specs/Listing.
+-- What the theorems of the listing say: proofs/RunLaws proves them of specs/Listing.
 use Prim.Native.Nat.{ℕ, _+_, _*_, _≤_, _<_}
 use mathlib.Core.Path.{_≡_}
 use mathlib.Core.Bool.{cond}
@@ -7,21 +7,10 @@ use lib.ListN.{length, getD, take, replicate}
 use Rattle.gather.specs.State.{fresh}
 use Rattle.gather.specs.Gather.{Outcome, gatherOf}
 use Rattle.gather.specs.declared.Reader.{Reader}
-use Rattle.lines.specs.Lines.{headLine, linesOf, lastLine, Filled, appended}
+use Rattle.text.specs.Laid.{Filled, appended}
+use Rattle.lines.specs.Lines.{headLine, linesOf, lastLine}
 use Rattle.lines.specs.Listing.{listedPid, startListing, capped, bit, handedBy, Stepped, stepOf}
 use Rattle.lines.specs.declared.Listing.{Listing}
-
--- ---- numbers
-
-abbrev pub AllDigits : List ℕ → Type 0
-AllDigits [] = Unit
-AllDigits (d ∷ l) = (48 ≤ d) × (d ≤ 57) × AllDigits l
-
--- decimal text: digits alone, at least one, and no zero in front of others
-pub record Decimal (l : List ℕ) : Type 0 where
-  pub some : 0 < length l
-  pub each : AllDigits l
-  pub lead : 1 < length l → 48 < getD l 0 0
 
 -- ---- what is to be printed for transport packets
 

@@ -1,6 +1,5 @@
-// The text of a listing (01, "Listing program"): numbers and lines laid behind each other in a lent buffer, and one step of a
-// listing, which takes a transport packet and adds the lines of the T2-MI packets that it finishes. Where a text has no room
-// nothing of it is laid.
+// The text of a listing (01, "Listing program"): its lines, and one step of a listing, which takes a transport packet and adds
+// the lines of the T2-MI packets that it finishes. Where a line has no room nothing of it is laid.
 use gather::Gathered;
 use gather::Reader;
 use packet::Header;
@@ -8,10 +7,9 @@ use packet::Packet;
 ghost use mathlib.Core.Path.{_≡_};
 ghost use Prim.Native.Nat.{_+_, _*_, _≤_};
 ghost use lib.ListN.{length};
-ghost use Rattle.fields.specs.Parts.{overlay};
 ghost use Rattle.packet.specs.Cut.{cut};
-ghost use Rattle.lines.specs.Digits.{digits};
-ghost use Rattle.lines.specs.Lines.{word, headLine, fieldsLine, refusedLine, lineBy, linesOf, lastLine, laid, appended};
+ghost use Rattle.text.specs.Laid.{word, laid, appended};
+ghost use Rattle.lines.specs.Lines.{headLine, fieldsLine, refusedLine, lineBy, linesOf, lastLine};
 ghost use Rattle.lines.specs.Listing.{startListing, capped, bit, afterOf, roomy, stepOf};
 
 // A listing under way: the reader, the packets that it handed out so far, and its loss marks.
@@ -29,65 +27,12 @@ pub struct Step {
     pub filled: usize,
 }
 
-// How many decimal digits a number has.
-fn digit_count(n: u64) -> usize
-    ensures { λ r. ⌜ r ≡ length (digits n) ⌝ }
-{
-    let mut k: usize = 1;
-    let mut rest = n / 10;
-    while 0 < rest {
-        rest = rest / 10;
-        k += 1;
-    }
-    k
-}
-
-// Lays the k digits of n at at, the last one first.
-fn lay_digits(lines: &mut [u8], at: usize, k: usize, n: u64)
-    requires { ⌜ (k ≡ length (digits n)) × (at + k ≤ length (now lines)) ⌝ }
-    ensures { λ _. ⌜ now (lines .exit) ≡ overlay at (digits n) (now (lines .entry)) ⌝ }
-{
-    let mut rest = n;
-    let mut i = k;
-    while 0 < i {
-        i -= 1;
-        lines[at + i] = 48 + (rest % 10) as u8;
-        rest = rest / 10;
-    }
-}
-
-// Appends a number in decimal; gives the place behind it.
-pub fn number(lines: &mut [u8], at: usize, n: u64) -> usize
-    ensures { λ r. ⌜ record { at = r; lines = now (lines .exit) } ≡ appended (digits n) at (now (lines .entry)) ⌝ }
-{
-    let k = digit_count(n);
-    if !fields::within(at, k, lines.len()) {
-        return at;
-    }
-    lay_digits(lines, at, k, n);
-    at + k
-}
-
-// Appends a text.
-fn append(lines: &mut [u8], at: usize, text: &[u8]) -> usize
-    ensures { λ r. ⌜ record { at = r; lines = now (lines .exit) } ≡ appended (now (text .entry)) at (now (lines .entry)) ⌝ }
-{
-    let n = text.len();
-    if !fields::within(at, n, lines.len()) {
-        return at;
-    }
-    fields::copy(lines, at, n, text, 0);
-    at + n
-}
-
 // Lays a number, which has at most 20 digits, and the byte behind it.
 fn lay_word(lines: &mut [u8], at: usize, n: u64, end: u8) -> usize
     requires { ⌜ at + 21 ≤ length (now lines) ⌝ }
     ensures { λ r. ⌜ (record { at = r; lines = now (lines .exit) } ≡ laid (word n end) at (now (lines .entry))) × (r ≤ at + 21) ⌝ }
 {
-    let k = number(lines, at, n);
-    lines[k] = end;
-    k + 1
+    text::word(lines, at, n, end)
 }
 
 // Lays the line of a header's fields at the front.
@@ -107,7 +52,7 @@ fn lay_refused(line: &mut [u8], refusal: u32) -> usize
     requires { ⌜ 105 ≤ length (now line) ⌝ }
     ensures { λ r. ⌜ record { at = r; lines = now (line .exit) } ≡ laid (refusedLine refusal) 0 (now (line .entry)) ⌝ }
 {
-    let a = append(line, 0, b"refused ");
+    let a = text::append(line, 0, b"refused ");
     lay_word(line, a, refusal as u64, b'\n')
 }
 
@@ -118,18 +63,18 @@ pub fn line(lines: &mut [u8], at: usize, p: Packet) -> usize
     let mut aside = [0u8; 105];
     if p.refusal != 0 {
         let n = lay_refused(&mut aside, p.refusal);
-        return append(lines, at, &aside[..n]);
+        return text::append(lines, at, &aside[..n]);
     }
     let h = p.header;
     let n = lay_fields(&mut aside, h);
-    append(lines, at, &aside[..n])
+    text::append(lines, at, &aside[..n])
 }
 
 // Appends the header.
 pub fn head_line(lines: &mut [u8], at: usize) -> usize
     ensures { λ r. ⌜ record { at = r; lines = now (lines .exit) } ≡ appended headLine at (now (lines .entry)) ⌝ }
 {
-    append(lines, at, b"type count frame stream bits\n")
+    text::append(lines, at, b"type count frame stream bits\n")
 }
 
 // Lays the line of the totals at the front.
@@ -137,9 +82,9 @@ fn lay_last(line: &mut [u8], packets: u64, gaps: u64) -> usize
     requires { ⌜ 55 ≤ length (now line) ⌝ }
     ensures { λ r. ⌜ record { at = r; lines = now (line .exit) } ≡ laid (lastLine packets gaps) 0 (now (line .entry)) ⌝ }
 {
-    let a = append(line, 0, b"packets ");
+    let a = text::append(line, 0, b"packets ");
     let b = lay_word(line, a, packets, b' ');
-    let c = append(line, b, b"gaps ");
+    let c = text::append(line, b, b"gaps ");
     lay_word(line, c, gaps, b'\n')
 }
 
@@ -261,6 +206,6 @@ impl Listing {
     {
         let mut aside = [0u8; 64];
         let n = lay_last(&mut aside, self.packets, self.gaps);
-        append(lines, at, &aside[..n])
+        text::append(lines, at, &aside[..n])
     }
 }

@@ -7,8 +7,9 @@ use mathlib.Core.List.{List, _++_}
 use Prim.Native.Nat.{ℕ, _+_, _≤_}
 use native.Mathlib.Omega.{arith}
 use Rattle.packet.specs.declared.Header.{Header}
-use Rattle.lines.specs.Lines.{space, newline, word, fieldsLine}
-use Rattle.lines.proofs.LayLaws.{laid-next}
+use Rattle.text.specs.Laid.{space, newline, word}
+use Rattle.lines.specs.Lines.{fieldsLine}
+use Rattle.text.proofs.LayLaws.{laid-next}
 use Rattle.lines.proofs.lay_fields.Statement.{statement}
 use Rattle.lines.proofs.lay_fields.Tie as tie
 

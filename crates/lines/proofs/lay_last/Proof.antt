@@ -7,8 +7,9 @@ use mathlib.Core.Path.{_≡_, _∙_}
 use mathlib.Core.List.{_++_}
 use Prim.Native.Nat.{_+_, _≤_}
 use native.Mathlib.Omega.{arith}
-use Rattle.lines.specs.Lines.{space, newline, word, packetsWord, gapsWord, lastLine, laid}
-use Rattle.lines.proofs.LayLaws.{appended-fits, laid-at, laid-next}
+use Rattle.text.specs.Laid.{space, newline, word, laid}
+use Rattle.lines.specs.Lines.{packetsWord, gapsWord, lastLine}
+use Rattle.text.proofs.LayLaws.{appended-fits, laid-at, laid-next}
 use Rattle.lines.proofs.lay_last.Statement.{statement}
 use Rattle.lines.proofs.lay_last.Tie as tie
 

@@ -8,7 +8,7 @@ use mathlib.Core.Path.{_≡_, refl, sym, _∙_}
 use Prim.Native.Nat.{_+_, _-_, _*_, _≤_}
 use native.Mathlib.Omega.{arith}
 use Rattle.packet.proofs.LayoutLaws.{size-least}
-use Rattle.lines.specs.Lines.{laid}
+use Rattle.text.specs.Laid.{laid}
 use Rattle.lines.proofs.LineLaws.{linesFrom, nothing-left, left-short, left-bad, left-room, left-good}
 use Rattle.lines.proofs.lay_lines.Statement.{statement}
 use Rattle.lines.proofs.lay_lines.Tie as tie

@@ -4,8 +4,9 @@ use borrow.Author.Needs.{needs}
 use denote.Ref.{now}
 use mathlib.Core.Path.{_≡_, _∙_}
 use native.Mathlib.Omega.{arith}
-use Rattle.lines.specs.Lines.{newline, word, refusedWord, refusedLine, laid}
-use Rattle.lines.proofs.LayLaws.{appended-fits, laid-at, laid-next}
+use Rattle.text.specs.Laid.{newline, word, laid}
+use Rattle.lines.specs.Lines.{refusedWord, refusedLine}
+use Rattle.text.proofs.LayLaws.{appended-fits, laid-at, laid-next}
 use Rattle.lines.proofs.lay_refused.Statement.{statement}
 use Rattle.lines.proofs.lay_refused.Tie as tie
 

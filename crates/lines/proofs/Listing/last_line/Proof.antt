@@ -7,8 +7,8 @@ use lib.Seq.{length-take-le}
 use mathlib.Core.Path.{sym, ap, _∙_}
 use mathlib.Core.List.{List}
 use Prim.Native.Nat.{ℕ, _≤_}
-use Rattle.lines.specs.Lines.{appended}
-use Rattle.lines.proofs.LayLaws.{front-read, front-within}
+use Rattle.text.specs.Laid.{appended}
+use Rattle.text.proofs.LayLaws.{front-read, front-within}
 use Rattle.lines.proofs.Listing.last_line.Statement.{statement}
 use Rattle.lines.proofs.Listing.last_line.Tie as tie
 

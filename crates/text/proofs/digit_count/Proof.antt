@@ -1,14 +1,14 @@
--- `lines::digit_count` meets its contract: what is counted and the digits that are left are all the digits.
+-- `text::digit_count` meets its contract: what is counted and the digits that are left are all the digits.
 -- Assumes nothing.
 use borrow.Author.Needs.{needs}
 use lib.ListN.{length}
 use mathlib.Core.Path.{_≡_, ap}
 use Prim.Native.Nat.{_+_, _≤_}
 use native.Mathlib.Omega.{arith}
-use Rattle.lines.specs.Digits.{spell, digits}
-use Rattle.lines.proofs.DigitLaws.{spell-zero, spell-counts, digits-count, digits-few}
-use Rattle.lines.proofs.digit_count.Statement.{statement}
-use Rattle.lines.proofs.digit_count.Tie as tie
+use Rattle.text.specs.Digits.{spell, digits}
+use Rattle.text.proofs.DigitLaws.{spell-zero, spell-counts, digits-count, digits-few}
+use Rattle.text.proofs.digit_count.Statement.{statement}
+use Rattle.text.proofs.digit_count.Tie as tie
 
 abbrev Inv-loop : tie.InvT-loop
 Inv-loop n k₀ rest₀ k rest = (k + length (spell rest) ≡ length (digits n)) × (length (digits n) ≤ 20)

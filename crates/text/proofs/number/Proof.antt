@@ -1,4 +1,4 @@
--- `lines::number` meets its contract: the digits are counted, `within` decides, and they are laid.
+-- `text::number` meets its contract: the digits are counted, `within` decides, and they are laid.
 -- Assumes nothing.
 use borrow.Author.Needs.{needs}
 use borrow.Author.Tests.{not-true, not-false, leb-true}
@@ -9,10 +9,10 @@ use mathlib.Core.Path.{_≡_, sym, ap, _∙_}
 use mathlib.Core.Bool.{false}
 use Prim.Native.Nat.{ℕ, _+_, _≤_}
 use native.Mathlib.Omega.{arith}
-use Rattle.lines.specs.Digits.{digits}
-use Rattle.lines.proofs.LayLaws.{appended-fits, appended-not}
-use Rattle.lines.proofs.number.Statement.{statement}
-use Rattle.lines.proofs.number.Tie as tie
+use Rattle.text.specs.Digits.{digits}
+use Rattle.text.proofs.LayLaws.{appended-fits, appended-not}
+use Rattle.text.proofs.number.Statement.{statement}
+use Rattle.text.proofs.number.Tie as tie
 
 -- the digits have room
 fits : (k : tie.Else1) → k .before .before .before .before .args .at + length (digits (k .before .before .before .before .args .n)) ≤ length (now (k .before .before .before .before .args .lines))

@@ -7,14 +7,15 @@ use Prim.Native.Nat.{ℕ, suc, _+_, _/_, _%_, _^_, _≤_, _<_}
 use native.Mathlib.Nat.{add-zero}
 use native.Mathlib.Numerals.{add-one}
 use native.Mathlib.Omega.{arith}
+use lib.Dec.{leb}
 use lib.ListN.{length, getD, take, drop, set, length-append}
 use lib.Seq.{length-take-le, take-suc, drop-at, drop-length, set-at}
 use borrow.Author.Tests.{le-leb}
 use Rattle.fields.specs.Parts.{overlay, inside}
-use Rattle.fields.proofs.PartLaws.{overlay-is, overlay-none, overlay-next, take-front}
-use Rattle.lines.specs.Digits.{digit, digits}
-use Rattle.lines.specs.Lines.{word, Filled, laid, appended}
-use Rattle.lines.proofs.DigitLaws.{digits-few, ending, length-ending, digits-ending}
+use Rattle.fields.proofs.PartLaws.{overlay-is, overlay-none, overlay-next, set-overlay, take-front}
+use Rattle.text.specs.Digits.{digit, digits}
+use Rattle.text.specs.Laid.{word, Filled, laid, appended}
+use Rattle.text.proofs.DigitLaws.{digits-few, ending, length-ending, digits-ending}
 
 -- ---- with and without room
 
@@ -25,6 +26,10 @@ appended-fits p at l h = rw (le-leb (at + length p) (length l) h)
 pub appended-not : (p : List ℕ) (at : ℕ) (l : List ℕ) → inside at (length p) l ≡ false → appended p at l ≡ record { at = at; lines = l }
 unfolding appended
 appended-not p at l h = rw h
+
+-- one byte more than k
+pub appended-without : (p : List ℕ) (k at : ℕ) (l : List ℕ) → length p ≡ k + 1 → leb (at + (k + 1)) (length l) ≡ false → appended p at l ≡ record { at = at; lines = l }
+appended-without p k at l e h = appended-not p at l (ap (λ (n : ℕ). leb (at + n) (length l)) e ∙ h)
 
 -- ---- one text behind another
 
@@ -61,6 +66,14 @@ module _ (p l : List ℕ) (r : ℕ) (m : List ℕ) (e : record { at = r; lines =
   front-within =
       rw (laid-lines p 0 l r m e, overlay-is 0 p l, length-append p (drop (0 + length p) l)) (omega (arith, laid-at p 0 l r m e))
 
+-- a store before p
+pub set-before : (at : ℕ) (p l : List ℕ) (x : ℕ) → at < length l → set (overlay (at + 1) p l) at x ≡ overlay at (x ∷ p) l
+set-before at p l x h =
+    let e : at + 1 + length p ≡ at + suc (length p) = omega arith in
+    rw (overlay-is (at + 1) p l, add-one at, take-suc l at 0 h, append-assoc (take at l) (getD l at 0 ∷ []) (p ++ drop (suc at + length p) l))
+    (set-at (take at l) (getD l at 0) (p ++ drop (suc at + length p) l) x at (length-take-le at l (omega arith))
+    ∙ rw (← add-one at, e) (sym (overlay-is at (x ∷ p) l)))
+
 -- ---- words
 
 pub word-length : (n end : ℕ) → length (word n end) ≡ length (digits n) + 1
@@ -71,15 +84,13 @@ word-length n end = length-append (digits n) (end ∷ [])
 pub word-few : (k n end : ℕ) → n < 10 ^ k → 0 < k → length (word n end) ≤ k + 1
 word-few k n end h p = omega (arith, word-length n end, digits-few k n h p)
 
--- ---- digits, the last one first
+-- the byte stored behind the digits
+pub word-stored : (n end at : ℕ) (l m : List ℕ) → at + (length (digits n) + 1) ≤ length l → m ≡ overlay at (digits n) l
+    → set m (at + length (digits n)) end ≡ overlay at (word n end) l
+unfolding word
+word-stored n end at l m h e = rw e (set-overlay at (digits n) l end (omega arith))
 
--- a store before p
-set-before : (at : ℕ) (p l : List ℕ) (x : ℕ) → at < length l → set (overlay (at + 1) p l) at x ≡ overlay at (x ∷ p) l
-set-before at p l x h =
-    let e : at + 1 + length p ≡ at + suc (length p) = omega arith in
-    rw (overlay-is (at + 1) p l, add-one at, take-suc l at 0 h, append-assoc (take at l) (getD l at 0 ∷ []) (p ++ drop (suc at + length p) l))
-    (set-at (take at l) (getD l at 0) (p ++ drop (suc at + length p) l) x at (length-take-le at l (omega arith))
-    ∙ rw (← add-one at, e) (sym (overlay-is at (x ∷ p) l)))
+-- ---- digits, the last one first
 
 module _ (d : List ℕ) (i j rest : ℕ) (e : i ≡ j + 1) (f : d ≡ ending i rest ++ drop i d) where
   split : d ≡ ending j (rest / 10) ++ (digit (rest % 10) ∷ drop i d)

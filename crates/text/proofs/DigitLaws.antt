@@ -10,8 +10,7 @@ use lib.ListN.{length, getD, take, length-append, List·getD-append}
 use lib.Seq.{length-take-le, take-all, take-suc, getD-take}
 use borrow.Author.Tests.{ne-eqb, eqb-true, eqb-false}
 use Rattle.fields.proofs.Cases.{cases}
-use Rattle.lines.specs.Digits.{digit, spellBy, spell, digits, valueFrom, value}
-use Rattle.lines.specs.Theorems.{AllDigits, Decimal}
+use Rattle.text.specs.Digits.{digit, spellBy, spell, digits, valueFrom, value, AllDigits, Decimal}
 
 -- ---- how the digits of a number over 0 go on
 
@@ -71,6 +70,7 @@ value-last l n h = value-append 0 l (digit (n % 10) ∷ []) ∙ rw h (omega arit
 pub value-spell : (n : ℕ) → value (spell n) ≡ n
 value-spell = tenths (λ n. value (spell n) ≡ n) (rw spell-zero (unfold value in unfold valueFrom in refl)) (λ n h r. rw (spell-more n h) (value-last (spell (n / 10)) n r))
 
+-- A theorem: what is written reads as the number
 pub value-digits : (n : ℕ) → value (digits n) ≡ n
 value-digits zero = unfold digits in unfold value in unfold valueFrom in refl
 value-digits (suc n) = rw (digits-more (suc n) (omega arith)) (value-spell (suc n))
@@ -120,6 +120,7 @@ spell-lead =
     (λ t. let q : 0 < n / 10 = omega (arith, eqb-false (n / 10) 0 t) in
     rw (List·getD-append (spell (n / 10)) (digit (n % 10) ∷ []) 0 0 (omega (arith, length-more (n / 10) q))) (r q))))
 
+-- A theorem: digits alone, and no leading zero
 pub digits-decimal : (n : ℕ) → Decimal (digits n)
 digits-decimal zero = rw digits-zero (record { some = omega arith; each = (omega arith, omega arith, tt); lead = λ h. absurd (omega arith) })
 digits-decimal (suc n) =
@@ -162,7 +163,7 @@ spelt-by (suc n) l e a h =
     first-counts zero m d f g = omega (arith, value-end m d, g refl)
     first-counts (suc n) m d f g = omega (arith, value-end m d, f (omega arith))
 
--- decimal text is the digits of the number that it is read as
+-- A theorem: decimal text is the digits of the number that it is read as
 pub digits-only : (l : List ℕ) → Decimal l → l ≡ digits (value l)
 digits-only [] c = absurd (omega (arith, c .some))
 digits-only (d ∷ []) c = one-digit d (c .each .0) (c .each .1)

@@ -1,4 +1,4 @@
--- `lines::append` meets its contract: `within` decides, and `copy` lays the whole text.
+-- `text::append` meets its contract: `within` decides, and `copy` lays the whole text.
 -- Assumes nothing.
 use borrow.Author.Needs.{needs}
 use borrow.Author.Tests.{not-true, not-false, leb-true}
@@ -10,9 +10,9 @@ use Prim.Native.Nat.{_+_, _≤_}
 use native.Mathlib.Omega.{arith}
 use Rattle.fields.specs.Parts.{overlay}
 use Rattle.fields.proofs.PartLaws.{part-whole, copied-to}
-use Rattle.lines.proofs.LayLaws.{appended-fits, appended-not}
-use Rattle.lines.proofs.append.Statement.{statement}
-use Rattle.lines.proofs.append.Tie as tie
+use Rattle.text.proofs.LayLaws.{appended-fits, appended-not}
+use Rattle.text.proofs.append.Statement.{statement}
+use Rattle.text.proofs.append.Tie as tie
 
 -- the text has room
 fits : (k : tie.Else1) → k .before .before .before .before .args .at + length (now (k .before .before .before .before .args .text)) ≤ length (now (k .before .before .before .before .args .lines))

@@ -1,4 +1,4 @@
--- `lines::lay_digits` meets its contract: the digits from i on are laid, and those before them are the last i of what is left
+-- `text::lay_digits` meets its contract: the digits from i on are laid, and those before them are the last i of what is left
 -- of the number.
 -- Assumes nothing.
 use borrow.Author.Needs.{needs}
@@ -10,11 +10,11 @@ use Prim.Native.Nat.{_+_, _-_, _≤_}
 use native.Mathlib.Nat.{add-zero}
 use native.Mathlib.Omega.{arith}
 use Rattle.fields.specs.Parts.{overlay}
-use Rattle.lines.specs.Digits.{digits}
-use Rattle.lines.proofs.DigitLaws.{ending}
-use Rattle.lines.proofs.LayLaws.{digits-left, digit-laid, digits-first, digits-none}
-use Rattle.lines.proofs.lay_digits.Statement.{statement}
-use Rattle.lines.proofs.lay_digits.Tie as tie
+use Rattle.text.specs.Digits.{digits}
+use Rattle.text.proofs.DigitLaws.{ending}
+use Rattle.text.proofs.LayLaws.{digits-left, digit-laid, digits-first, digits-none}
+use Rattle.text.proofs.lay_digits.Statement.{statement}
+use Rattle.text.proofs.lay_digits.Tie as tie
 
 abbrev Inv-loop : tie.InvT-loop
 Inv-loop lines₀ at k n rest₀ i₀ lines rest i =
