@@ -1,15 +1,16 @@
 -- Addressing, the MIP and site timing, laid out flat, and a MIP's arguments put together.
 use Prim.Native.Nat.{ℕ, _^_, _<_}
-use mathlib.Core.Bool.{cond}
-use mathlib.Core.List.{List}
+use mathlib.Core.List.{List, _∷_}
 use lib.Dec.{eqb, ltb}
 use lib.ListN.{length}
-use Rattle.refusals.specs.Answers.{Wrote}
+use Rattle.refusals.specs.Checks.{Check, _when_}
+use Rattle.refusals.specs.Answers.{Wrote, written}
 use Rattle.addressing.specs.declared.PayloadRead.{PayloadRead}
 use Rattle.addressing.specs.declared.Step.{Step}
 use Rattle.addressing.specs.declared.Step.the-variants.{Given, End}
 use Rattle.addressing.specs.declared.Walked.{Walked}
-use Rattle.mip.specs.Write.{writeOf}
+use Rattle.mip.specs.Write.{mipBytes, writeChecks}
+use Rattle.mip.specs.declared.Mip.{Mip}
 use Rattle.mip.specs.declared.MipRead.{MipRead}
 use Rattle.mip.specs.declared.Time.{Time}
 use Rattle.sfn.specs.Answers.{bitOf}
@@ -47,13 +48,9 @@ mipFlat p =
       periodic = bitOf (p .mip .periodic);
     }
 
--- a periodic over 1 is too wide for its bit: 38, in its turn after 36
-abbrev pub mipWritten : ℕ → ℕ → ℕ → ℕ → ℕ → ℕ → ℕ → List ℕ → List ℕ → Wrote
-mipWritten count pointer periodic future stamp delay tps d out =
-    cond (ltb 1 periodic)
-    (record { answer = record { refusal = cond (ltb 163 (length d)) 36 38; bytes = 0 }; out = out })
-    (writeOf
-    (record {
+abbrev pub mipMade : ℕ → ℕ → ℕ → ℕ → ℕ → ℕ → ℕ → Mip
+mipMade count pointer periodic future stamp delay tps =
+    record {
       count = count;
       pointer = pointer;
       periodic = eqb periodic 1;
@@ -61,7 +58,16 @@ mipWritten count pointer periodic future stamp delay tps d out =
       stamp = record { 0 = stamp };
       delay = record { 0 = delay };
       tps = tps;
-    }) d out)
+    }
+
+-- a periodic over 1 is too wide for its bit: 38, in its turn after 36
+unfoldable pub mipChecks : ℕ → Mip → List ℕ → ℕ → List Check
+mipChecks periodic m d room = 36 when ltb 163 (length d) ∷ 38 when ltb 1 periodic ∷ writeChecks m d room
+
+abbrev pub mipWritten : ℕ → ℕ → ℕ → ℕ → ℕ → ℕ → ℕ → List ℕ → List ℕ → Wrote
+mipWritten count pointer periodic future stamp delay tps d out =
+    let m = mipMade count pointer periodic future stamp delay tps in
+    written (mipChecks periodic m d (length out)) (mipBytes m d) out
 
 abbrev pub timeOf : Time → SfnTime
 timeOf t = record { refusal = t .refusal; steps = t .steps .0 }

@@ -258,7 +258,7 @@ pub extern "C" fn sfn_function_read(tag: u8, body: &[u8]) -> SfnFunction
 }
 
 // What the arguments of sfn_function_write make: a function, or none, for which 38 is answered.
-pub enum Made {
+enum Made {
     Unfit,
     Fit(Function),
 }

@@ -1,14 +1,12 @@
 -- `sfn::function_from` meets its contract: each test in its turn.
 -- Assumes nothing.
 use borrow.Author.Needs.{needs}
-use lib.IntN.{ℤ, pos, negsuc}
-use lib.Signed.{ltZ, mag}
-use mir.Syntax.{w16, w32}
-use mir.Val.{SFits, toZ, ofZ}
+use lib.IntN.{ℤ}
+use mir.Syntax.{w32}
+use mir.Val.{toZ, ofZ}
 use mir.ValLaws.{toZ-ofZ}
 use borrow.Author.Tests.{lt-ltb, le-ltb, eq-eqb, ne-eqb}
-use mathlib.Core.Path.{_≡_, sym, ap, _∙_}
-use mathlib.Core.Bool.{not}
+use mathlib.Core.Path.{_≡_, ap, _∙_}
 use Prim.Native.Nat.{ℕ}
 use Rattle.functions.specs.declared.Function.the-variants.{FrequencyOffset}
 use Rattle.sfn.specs.Making.{naturalOf, offsetMade, powerMade, waitingMade, madeOf}

@@ -1,9 +1,7 @@
 -- `sfn::power` meets its contract: 16 bits, or none.
 -- Assumes nothing.
 use borrow.Author.Needs.{needs}
-use borrow.Author.Tests.{lt-ltb, le-ltb, eq-eqb, ne-eqb}
-use mathlib.Core.Path.{_≡_, sym, ap, _∙_}
-use mathlib.Core.Bool.{not}
+use borrow.Author.Tests.{lt-ltb, le-ltb}
 use Rattle.sfn.specs.Making.{powerMade}
 use Rattle.sfn.proofs.power.Statement.{statement}
 use Rattle.sfn.proofs.power.Tie as tie

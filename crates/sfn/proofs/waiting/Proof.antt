@@ -2,8 +2,6 @@
 -- Assumes nothing.
 use borrow.Author.Needs.{needs}
 use borrow.Author.Tests.{lt-ltb, le-ltb, eq-eqb, ne-eqb}
-use mathlib.Core.Path.{_≡_, sym, ap, _∙_}
-use mathlib.Core.Bool.{not}
 use Rattle.sfn.specs.Making.{waitingMade}
 use Rattle.sfn.proofs.waiting.Statement.{statement}
 use Rattle.sfn.proofs.waiting.Tie as tie
