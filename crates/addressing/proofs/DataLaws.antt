@@ -1,225 +1,143 @@
--- How a loop's functions and the data's groups unfold, one at a time: the bounds on how many there are do not matter.
+-- What the tests of a group and of a function say, for any counting; that the functions for a transmitter rise; and where a fault
+-- lies.
 -- Assumes nothing.
-use mathlib.Core.Path.{_≡_, refl, sym, ap, ap₂, _∙_}
-use mathlib.Core.Bool.{Bool, true, false, cond}
-use mathlib.Core.List.{List, [], _∷_}
-use Prim.Native.Nat.{ℕ, zero, suc, _+_, _-_, _≤_, _<_}
-use native.Mathlib.Nat.{add-assoc, suc-ne-zero}
+use mathlib.Core.Path.{_≡_, refl}
+use mathlib.Core.Bool.{Bool, true, false, _||_}
+use mathlib.Core.List.{List, [], _∷_, _++_}
+use Prim.Native.Nat.{ℕ, _+_, _-_, _≤_}
+use native.Mathlib.Nat.{zero-add}
 use native.Mathlib.Omega.{arith}
 use lib.Dec.{eqb, ltb}
 use lib.ListN.{length, getD, take, drop, length-drop}
-use lib.Seq.{length-take-le, take-all, drop-drop}
-use borrow.Author.Tests.{ltb-true, ltb-false, eq-eqb, ne-eqb, eqb-true, eqb-false}
+use lib.Seq.{length-take-le, take-all}
+use borrow.Author.Tests.{ltb-false}
 use Rattle.fields.proofs.Cases.{cases, true≢false}
 use Rattle.refusals.specs.Checks.{first}
 use Rattle.refusals.proofs.CheckLaws.{none-holds}
-use Rattle.addressing.specs.Data.{leastLength, loopOf, groupSize, loopBytes, groupCut, functionSize, functionChecks, Held, none, faulty, onTop, functionAt, loopBy, loopIn, loopAt, groupsBy, groupsIn}
-
--- ---- what the tests say
+use Rattle.addressing.proofs.EntryLaws.{Fits, entries-rule}
+use Rattle.addressing.specs.Data.{Entry, loopLength, groupSize, groupChecks, groupAt, group, functionSize, functionChecks, Placed, endOf, function, entriesIn, groupsIn, loopIn, functionsOf, faultIn, faultOf}
+use Rattle.addressing.specs.Groups.{Points, loopEnd}
+use Rattle.addressing.specs.Walk.{hears, heardOf, functionsFor}
+use Rattle.addressing.specs.declared.Fault.{Fault}
 
 -- where one test or another fails, both do
-pub neither : (a b : Bool) → cond a true b ≡ false → (a ≡ false) × (b ≡ false)
+pub neither : (a b : Bool) → (a || b) ≡ false → (a ≡ false) × (b ≡ false)
 neither true b h = absurd (true≢false h)
 neither false b h = (refl, h)
-
-pub function-fits : (l : List ℕ) → first (functionChecks l) ≡ 0 → functionSize l ≤ length l
-unfolding functionChecks
-function-fits l h =
-    let n = none-holds (functionChecks l) tt h .0 in
-    ltb-false _ _ (neither (ltb (getD l 1 0) leastLength) _ (neither (ltb (length l) 2) _ n .1) .1)
-
-pub group-fits : (l : List ℕ) → groupCut l ≡ false → groupSize l ≤ length l
-group-fits l h = ltb-false _ _ (neither (ltb (length l) 3) _ h .1)
-
-pub length-loop : (l : List ℕ) → groupCut l ≡ false → length (loopBytes l) ≡ loopOf l
-length-loop l h =
-    let f = group-fits l h in
-    length-take-le (loopOf l) (drop 3 l) (simp length-drop (omega arith))
-
--- what is left is shorter by what was taken
-pub rest-shorter : (n k : ℕ) (l : List ℕ) → 0 < n → n ≤ length l → length l ≤ suc k → length (drop n l) ≤ k
-rest-shorter n k l p f h = simp length-drop (omega arith)
-
--- ---- a loop with a bound on its functions
-
-module _ (owner : ℕ) where
-  loop-by-none : (k at : ℕ) (l : List ℕ) → length l ≤ 0 → loopBy k owner at l ≡ none
-  unfolding loopBy
-  loop-by-none zero at l h = refl
-  loop-by-none (suc k) at [] h = refl
-  loop-by-none (suc k) at (b ∷ bs) h = absurd (omega arith)
-
-  loop-by-fault : (k at : ℕ) (l : List ℕ) → 0 < length l → (first (functionChecks l) ≡ 0 → ⊥)
-      → loopBy (suc k) owner at l ≡ faulty (first (functionChecks l))
-  unfolding loopBy
-  loop-by-fault k at [] some h = absurd (omega arith)
-  loop-by-fault k at (b ∷ bs) some h = rw (ne-eqb (first (functionChecks (b ∷ bs))) 0 h)
-
-  loop-by-on : (k at : ℕ) (l : List ℕ) → 0 < length l → first (functionChecks l) ≡ 0
-      → loopBy (suc k) owner at l ≡ onTop (functionAt owner at l ∷ []) (loopBy k owner (at + functionSize l) (drop (functionSize l) l))
-  unfolding loopBy
-  loop-by-on k at [] some h = absurd (omega arith)
-  loop-by-on k at (b ∷ bs) some h = rw (eq-eqb (first (functionChecks (b ∷ bs))) 0 h)
-
-  -- a bound beyond the bytes changes nothing
-  loop-by-any : (k m at : ℕ) (l : List ℕ) → length l ≤ k → length l ≤ m → loopBy k owner at l ≡ loopBy m owner at l
-  loop-by-any zero m at l hk hm = loop-by-none zero at l hk ∙ sym (loop-by-none m at l hk)
-  loop-by-any (suc k) zero at l hk hm = loop-by-none (suc k) at l hm ∙ sym (loop-by-none zero at l hm)
-  loop-by-any (suc k) (suc m) at l hk hm =
-      cases (ltb 0 (length l))
-      (λ p. let some : 0 < length l = ltb-true _ _ p in
-      cases (eqb (first (functionChecks l)) 0)
-      (λ t. let g : first (functionChecks l) ≡ 0 = eqb-true _ _ t in
-      let f : functionSize l ≤ length l = function-fits l g in
-      loop-by-on k at l some g
-      ∙ ap (onTop (functionAt owner at l ∷ [])) (loop-by-any k m (at + functionSize l) (drop (functionSize l) l) (rest-shorter _ k l (omega arith) f hk) (rest-shorter _ m l (omega arith) f hm))
-      ∙ sym (loop-by-on m at l some g))
-      (λ t. loop-by-fault k at l some (eqb-false _ _ t) ∙ sym (loop-by-fault m at l some (eqb-false _ _ t))))
-      (λ p. loop-by-none (suc k) at l (ltb-false _ _ p) ∙ sym (loop-by-none (suc m) at l (ltb-false _ _ p)))
-
-  -- ---- a loop: none left, a fault, or a function and the rest
-
-  pub loop-none : (at : ℕ) (l : List ℕ) → length l ≤ 0 → loopIn owner at l ≡ none
-  unfolding loopIn
-  loop-none at l h = loop-by-none (length l) at l h
-
-  module _ (at : ℕ) (l : List ℕ) (some : 0 < length l) where
-    loop-more : loopIn owner at l ≡ loopBy (suc (length l)) owner at l
-    unfolding loopIn
-    loop-more = loop-by-any (length l) (suc (length l)) at l (omega arith) (omega arith)
-
-    pub loop-fault : (first (functionChecks l) ≡ 0 → ⊥) → loopIn owner at l ≡ faulty (first (functionChecks l))
-    loop-fault h = loop-more ∙ loop-by-fault (length l) at l some h
-
-    pub loop-on : first (functionChecks l) ≡ 0
-        → loopIn owner at l ≡ onTop (functionAt owner at l ∷ []) (loopIn owner (at + functionSize l) (drop (functionSize l) l))
-    unfolding loopIn
-    loop-on h =
-        let f : functionSize l ≤ length l = function-fits l h in
-        let rest = drop (functionSize l) l in
-        let short : length rest ≤ length l = simp length-drop (omega arith) in
-        loop-more
-        ∙ loop-by-on (length l) at l some h
-        ∙ ap (onTop (functionAt owner at l ∷ [])) (loop-by-any (length l) (length rest) (at + functionSize l) rest short (omega arith))
-
-    -- the first function of a good loop is good
-    pub loop-good : loopIn owner at l .fault ≡ 0 → first (functionChecks l) ≡ 0
-    loop-good h =
-        cases (eqb (first (functionChecks l)) 0)
-        (λ t. eqb-true _ _ t)
-        (λ t. sym (ap (λ (g : Held). g .fault) (loop-fault (eqb-false _ _ t))) ∙ h)
-
--- ---- the same at a place of the loop
 
 -- the part of a slice from a place to the end
 pub from-on : (i : ℕ) (l : List ℕ) → take (length l - i) (drop i l) ≡ drop i l
 from-on i l = take-all (length l - i) (drop i l) (simp length-drop (omega arith))
 
-module _ (l : List ℕ) (i : ℕ) (some : i < length l) where
-  pub some-left : 0 < length (drop i l)
-  some-left = simp length-drop (omega arith)
+-- ---- a good group and a good function end before what is left of the data or of the loop does
 
-  pub function-ends : first (functionChecks (drop i l)) ≡ 0 → i + functionSize (drop i l) ≤ length l
-  function-ends h = omega (arith, function-fits (drop i l) h, length-drop i l)
+pub group-whole : (l : List ℕ) → first (groupChecks l) ≡ 0 → groupSize l ≤ length l
+unfolding groupChecks
+group-whole l h =
+    let n = none-holds (groupChecks l) tt h .0 in
+    ltb-false _ _ (neither (ltb (length l) 3) _ n .1)
 
-  pub loop-on-at : (owner at : ℕ) → first (functionChecks (drop i l)) ≡ 0
-      → loopIn owner (at + i) (drop i l) ≡ onTop (functionAt owner (at + i) (drop i l) ∷ []) (loopIn owner (at + (i + functionSize (drop i l))) (drop (i + functionSize (drop i l)) l))
-  loop-on-at owner at h =
-      loop-on owner (at + i) (drop i l) some-left h
-      ∙ ap₂ (λ (p : ℕ) (m : List ℕ). onTop (functionAt owner (at + i) (drop i l) ∷ []) (loopIn owner p m))
-      (add-assoc at i (functionSize (drop i l)))
-      (drop-drop (functionSize (drop i l)) i l)
+pub group-fits : Fits group
+group-fits = record { some = λ l. omega arith; within = group-whole }
 
--- ---- groups with a bound on them
+-- so its loop has as many bytes as it says
+pub length-loop : (at : ℕ) (l : List ℕ) → first (groupChecks l) ≡ 0 → length (groupAt at l .loop) ≡ loopLength l
+length-loop at l h =
+    let f = group-whole l h in
+    length-take-le (loopLength l) (drop 3 l) (simp length-drop (omega arith))
 
-groups-by-none : (k at : ℕ) (l : List ℕ) → length l ≤ 0 → groupsBy k at l ≡ none
-unfolding groupsBy
-groups-by-none zero at l h = refl
-groups-by-none (suc k) at [] h = refl
-groups-by-none (suc k) at (b ∷ bs) h = absurd (omega arith)
+module _ (own : ℕ) where
+  pub function-whole : (l : List ℕ) → first (functionChecks own l) ≡ 0 → functionSize own l ≤ length l
+  unfolding functionChecks
+  function-whole l h =
+      let n = none-holds (functionChecks own l) tt h .0 in
+      ltb-false _ _ (neither (ltb (length l) 2 || ltb (getD l 1 0) own) _ n .1)
 
-groups-by-cut : (k at : ℕ) (l : List ℕ) → 0 < length l → groupCut l ≡ true → groupsBy (suc k) at l ≡ faulty 26
-unfolding groupsBy
-groups-by-cut k at [] some h = absurd (omega arith)
-groups-by-cut k at (b ∷ bs) some h = rw h
+  pub function-fits : Fits (function own)
+  function-fits = record { some = λ l. omega arith; within = function-whole }
 
-groups-by-fault : (k at : ℕ) (l : List ℕ) → 0 < length l → groupCut l ≡ false → (loopAt at l .fault ≡ 0 → ⊥)
-    → groupsBy (suc k) at l ≡ loopAt at l
-unfolding groupsBy
-groups-by-fault k at [] some h g = absurd (omega arith)
-groups-by-fault k at (b ∷ bs) some h g = rw (h, ne-eqb (loopAt at (b ∷ bs) .fault) 0 g)
+-- ---- places rise: each function begins where the one before it ended, or later
 
-groups-by-on : (k at : ℕ) (l : List ℕ) → 0 < length l → groupCut l ≡ false → loopAt at l .fault ≡ 0
-    → groupsBy (suc k) at l ≡ onTop (loopAt at l .functions) (groupsBy k (at + groupSize l) (drop (groupSize l) l))
-unfolding groupsBy
-groups-by-on k at [] some h g = absurd (omega arith)
-groups-by-on k at (b ∷ bs) some h g = rw (h, eq-eqb (loopAt at (b ∷ bs) .fault) 0 g)
+abbrev pub Rising : ℕ → ℕ → List Placed → Type 0
+Rising from to [] = from ≤ to
+Rising from to (f ∷ fs) = (from + 2 ≤ f .start) × Rising (endOf f) to fs
 
--- a bound beyond the bytes changes nothing
-groups-by-any : (k m at : ℕ) (l : List ℕ) → length l ≤ k → length l ≤ m → groupsBy k at l ≡ groupsBy m at l
-groups-by-any zero m at l hk hm = groups-by-none zero at l hk ∙ sym (groups-by-none m at l hk)
-groups-by-any (suc k) zero at l hk hm = groups-by-none (suc k) at l hm ∙ sym (groups-by-none zero at l hm)
-groups-by-any (suc k) (suc m) at l hk hm =
-    cases (ltb 0 (length l))
-    (λ p. let some : 0 < length l = ltb-true _ _ p in
-    cases (groupCut l)
-    (λ c. groups-by-cut k at l some c ∙ sym (groups-by-cut m at l some c))
-    (λ c. let f : groupSize l ≤ length l = group-fits l c in
-    cases (eqb (loopAt at l .fault) 0)
-    (λ t. groups-by-on k at l some c (eqb-true _ _ t)
-    ∙ ap (onTop (loopAt at l .functions)) (groups-by-any k m (at + groupSize l) (drop (groupSize l) l) (rest-shorter _ k l (omega arith) f hk) (rest-shorter _ m l (omega arith) f hm))
-    ∙ sym (groups-by-on m at l some c (eqb-true _ _ t)))
-    (λ t. groups-by-fault k at l some c (eqb-false _ _ t) ∙ sym (groups-by-fault m at l some c (eqb-false _ _ t)))))
-    (λ p. groups-by-none (suc k) at l (ltb-false _ _ p) ∙ sym (groups-by-none (suc m) at l (ltb-false _ _ p)))
+pub rising-upto : (from to : ℕ) (fs : List Placed) → Rising from to fs → from ≤ to
+rising-upto from to [] r = r
+rising-upto from to (f ∷ fs) r = omega (arith, r .0, rising-upto (endOf f) to fs (r .1))
 
--- ---- groups: none left, a cut one, a fault in a loop, or a group and the rest
+pub rising-wider : (from′ from to to′ : ℕ) (fs : List Placed) → from′ ≤ from → to ≤ to′ → Rising from to fs → Rising from′ to′ fs
+rising-wider from′ from to to′ [] h g r = omega arith
+rising-wider from′ from to to′ (f ∷ fs) h g r = (omega (arith, r .0), rising-wider (endOf f) (endOf f) to to′ fs (omega arith) g (r .1))
 
-pub groups-none : (at : ℕ) (l : List ℕ) → length l ≤ 0 → groupsIn at l ≡ none
-unfolding groupsIn
-groups-none at l h = groups-by-none (length l) at l h
+rising-append : (from mid to : ℕ) (fs gs : List Placed) → Rising from mid fs → Rising mid to gs → Rising from to (fs ++ gs)
+rising-append from mid to [] gs r s = rising-wider from mid to to gs r (omega arith) s
+rising-append from mid to (f ∷ fs) gs r s = (r .0, rising-append (endOf f) mid to fs gs (r .1) s)
 
-module _ (at : ℕ) (l : List ℕ) (some : 0 < length l) where
-  groups-more : groupsIn at l ≡ groupsBy (suc (length l)) at l
-  unfolding groupsIn
-  groups-more = groups-by-any (length l) (suc (length l)) at l (omega arith) (omega arith)
+module _ (own : ℕ) where
+  pub loop-rising : (at : ℕ) (l : List ℕ) → Rising at (at + length l) (loopIn own (record { owner = 0; start = at; loop = l }) .entries)
+  loop-rising =
+      entries-rule (function own) (function-fits own) (λ at l h. Rising at (at + length l) (h .entries))
+      (λ at l h. omega arith)
+      (λ at l some b. omega arith)
+      (λ at l rest some g r. let f = function-whole own l g in
+      let n = length-drop (functionSize own l) l in
+      (omega arith, rising-wider _ (at + functionSize own l) (at + functionSize own l + length (drop (functionSize own l) l)) (at + length l) (rest .entries) (omega arith) (omega arith) r))
 
-  pub groups-cut : groupCut l ≡ true → groupsIn at l ≡ faulty 26
-  groups-cut c = groups-more ∙ groups-by-cut (length l) at l some c
+  module _ (tx : ℕ) where
+    heard-rising : (at : ℕ) (l : List ℕ) → Rising at (at + length l) (functionsOf own (heardOf tx (groupsIn at l .entries)))
+    unfolding functionsOf heardOf
+    heard-rising =
+        entries-rule group group-fits (λ at l h. Rising at (at + length l) (functionsOf own (heardOf tx (h .entries))))
+        (λ at l h. omega arith)
+        (λ at l some b. omega arith)
+        (λ at l rest some g r. let f = group-whole l g in
+        let n = length-drop (groupSize l) l in
+        let k = length-loop at l g in
+        let to = at + groupSize l in
+        let fs = loopIn own (groupAt at l) .entries in
+        let gs = functionsOf own (heardOf tx (rest .entries)) in
+        let here : Rising at to fs =
+        rising-wider at (at + 3) (at + 3 + length (groupAt at l .loop)) to fs (omega arith) (omega arith) (loop-rising (at + 3) (groupAt at l .loop)) in
+        let on : Rising to (at + length l) gs = rising-wider to to (to + length (drop (groupSize l) l)) (at + length l) gs (omega arith) (omega arith) r in
+        cases (hears tx (groupAt at l .owner))
+        (λ t. rw t (rising-append at to (at + length l) fs gs here on))
+        (λ t. rw t (rising-wider at to (at + length l) (at + length l) gs (omega arith) (omega arith) on)))
 
-  pub groups-fault : groupCut l ≡ false → (loopAt at l .fault ≡ 0 → ⊥) → groupsIn at l ≡ loopAt at l
-  groups-fault c h = groups-more ∙ groups-by-fault (length l) at l some c h
+    -- the functions for a transmitter lie in the data, one after the other
+    pub for-rising : (d : List ℕ) → Rising 0 (length d) (functionsFor own tx d)
+    unfolding functionsFor
+    for-rising d = rw (zero-add) at (heard-rising 0 d)
 
-  pub groups-on : groupCut l ≡ false → loopAt at l .fault ≡ 0
-      → groupsIn at l ≡ onTop (loopAt at l .functions) (groupsIn (at + groupSize l) (drop (groupSize l) l))
-  unfolding groupsIn
-  groups-on c h =
-      let rest = drop (groupSize l) l in
-      let short : length rest ≤ length l = simp length-drop (omega arith) in
-      groups-more
-      ∙ groups-by-on (length l) at l some c h
-      ∙ ap (onTop (loopAt at l .functions)) (groups-by-any (length l) (length rest) (at + groupSize l) rest short (omega arith))
+-- ---- a fault's place
 
-  -- the first group of good data is good
-  pub group-good : groupsIn at l .fault ≡ 0 → (groupCut l ≡ false) × (loopAt at l .fault ≡ 0)
-  group-good h =
-      cases (groupCut l)
-      (λ c. absurd (suc-ne-zero 25 (sym (ap (λ (g : Held). g .fault) (groups-cut c)) ∙ h)))
-      (λ c. cases (eqb (loopAt at l .fault) 0)
-      (λ t. (c, eqb-true _ _ t))
-      (λ t. (c, sym (ap (λ (g : Held). g .fault) (groups-fault c (eqb-false _ _ t))) ∙ h)))
+points-wider : (end end′ : ℕ) (f : Fault) → end ≤ end′ → Points end f → Points end′ f
+points-wider end end′ f h p = record { nowhere = p .nowhere; before = λ b. omega (arith, p .before b) }
 
--- ---- the same at a place of the data
+entries-point : {A : Type 0} (e : Entry A) → Fits e → (at : ℕ) (l : List ℕ) → Points (at + length l) (entriesIn e at l .fault)
+entries-point {A} e fits =
+    entries-rule e fits (λ at l h. Points (at + length l) (h .fault))
+    (λ at l h. record { nowhere = λ z. refl; before = λ b. absurd (b refl) })
+    (λ at l some b. record { nowhere = λ z. absurd (b z); before = λ _. omega arith })
+    (λ at l rest some g r. let f = fits .within l g in
+    let n = length-drop (e .size l) l in
+    points-wider (at + e .size l + length (drop (e .size l) l)) (at + length l) (rest .fault) (omega arith) r)
 
--- what lies between a group's header and its end is its loop
-pub loop-part : (l : List ℕ) (size : ℕ) → size ≡ groupSize l → take (size - 3) (drop 3 l) ≡ loopBytes l
-loop-part l size e = let k : size - 3 ≡ loopOf l = omega arith in ap (λ (n : ℕ). take n (drop 3 l)) k
+module _ (own : ℕ) where
+  fault-points : (at : ℕ) (l : List ℕ) → Points (at + length l) (faultIn own (groupsIn at l .entries) (groupsIn at l .fault))
+  unfolding faultIn
+  fault-points =
+      entries-rule group group-fits (λ at l h. Points (at + length l) (faultIn own (h .entries) (h .fault)))
+      (λ at l h. record { nowhere = λ z. refl; before = λ b. absurd (b refl) })
+      (λ at l some b. record { nowhere = λ z. absurd (b z); before = λ _. omega arith })
+      (λ at l rest some g r. let f = group-whole l g in
+      let n = length-drop (groupSize l) l in
+      let k = length-loop at l g in
+      cases (eqb (loopIn own (groupAt at l) .fault .refusal) 0)
+      (λ t. rw t (points-wider (at + groupSize l + length (drop (groupSize l) l)) (at + length l) (faultIn own (rest .entries) (rest .fault)) (omega arith) r))
+      (λ t. rw t (points-wider (loopEnd (groupAt at l)) (at + length l) (loopIn own (groupAt at l) .fault) (omega arith) (entries-point (function own) (function-fits own) (at + 3) (groupAt at l .loop)))))
 
-module _ (d : List ℕ) (at : ℕ) (some : at < length d) where
-  pub group-ends : groupCut (drop at d) ≡ false → at + groupSize (drop at d) ≤ length d
-  group-ends c = omega (arith, group-fits (drop at d) c, length-drop at d)
-
-  pub groups-on-at : groupCut (drop at d) ≡ false → loopAt at (drop at d) .fault ≡ 0
-      → groupsIn at (drop at d) ≡ onTop (loopAt at (drop at d) .functions) (groupsIn (at + groupSize (drop at d)) (drop (at + groupSize (drop at d)) d))
-  groups-on-at c h =
-      groups-on at (drop at d) (some-left d at some) c h
-      ∙ ap (λ (m : List ℕ). onTop (loopAt at (drop at d) .functions) (groupsIn (at + groupSize (drop at d)) m)) (drop-drop (groupSize (drop at d)) at d)
+  -- THE PLACE (L4 of 02): 0 where the data is good, and else that of a byte of the data
+  pub fault-place : (d : List ℕ) → Points (length d) (faultOf own d)
+  unfolding faultOf
+  fault-place d = rw (zero-add) at (fault-points 0 d)

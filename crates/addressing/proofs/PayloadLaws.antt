@@ -19,15 +19,15 @@ use Rattle.addressing.specs.declared.PayloadRead.{PayloadRead}
 
 -- ---- what is known of a payload that is read
 
-pub record Readable (p : List ℕ) : Type 0 where
+pub record Readable (own : ℕ) (p : List ℕ) : Type 0 where
   pub size : length p ≡ 2 + getD p 1 0
   pub reserved : getD p 0 0 ≡ 0
-  pub good : faultOf (dataOf p) ≡ 0
+  pub good : faultOf own (dataOf p) .refusal ≡ 0
 
-pub readable : (p : List ℕ) → first (payloadChecks p) ≡ 0 → Readable p
+pub readable : (own : ℕ) (p : List ℕ) → first (payloadChecks own p) ≡ 0 → Readable own p
 unfolding payloadChecks
-readable p h =
-    let n = none-found (payloadChecks p) (stands 22, (stands 19, (found (faultOf (dataOf p)), tt))) h in
+readable own p h =
+    let n = none-found (payloadChecks own p) (stands 22, (stands 19, (found (faultOf own (dataOf p) .refusal), tt))) h in
     record {
       size = eqb-true _ _ (not-false _ (neither (ltb (length p) 2) _ (n .0) .1));
       reserved = eqb-true _ _ (not-false _ (n .1 .0));
@@ -36,50 +36,50 @@ readable p h =
 
 -- ---- what is known of data that is written
 
-pub record Writable (d out : List ℕ) : Type 0 where
+pub record Writable (own : ℕ) (d out : List ℕ) : Type 0 where
   pub short : length d ≤ 255
-  pub good : faultOf d ≡ 0
+  pub good : faultOf own d .refusal ≡ 0
   pub room : 2 + length d ≤ length out
 
-pub writable : (d out : List ℕ) → first (writeChecks d (length out)) ≡ 0 → Writable d out
+pub writable : (own : ℕ) (d out : List ℕ) → first (writeChecks own d (length out)) ≡ 0 → Writable own d out
 unfolding writeChecks
-writable d out h =
-    let n = none-found (writeChecks d (length out)) (stands 37, (found (faultOf d), (stands 15, tt))) h in
+writable own d out h =
+    let n = none-found (writeChecks own d (length out)) (stands 37, (found (faultOf own d .refusal), (stands 15, tt))) h in
     record { short = ltb-false _ _ (n .0); good = not-found _ (n .1 .0); room = ltb-false _ _ (n .1 .1 .0) }
 
 -- ---- what the operations show
 
-pub read-shows : (p : List ℕ) → payloadOf p .refusal ≡ first (payloadChecks p)
+pub read-shows : (own : ℕ) (p : List ℕ) → payloadOf own p .refusal ≡ first (payloadChecks own p)
 unfolding payloadOf
-read-shows p = answer-shows (payloadChecks p) _ _ (λ (r : PayloadRead). r .refusal) (λ n. refl) refl
+read-shows own p = answer-shows (payloadChecks own p) _ _ (λ (r : PayloadRead). r .refusal) (λ n. refl) refl
 
-pub read-accepted : (p : List ℕ) → first (payloadChecks p) ≡ 0 → payloadOf p ≡ record { refusal = 0; bytes = length (dataOf p) }
+pub read-accepted : (own : ℕ) (p : List ℕ) → first (payloadChecks own p) ≡ 0 → payloadOf own p ≡ record { refusal = 0; bytes = length (dataOf p) }
 unfolding payloadOf
-read-accepted p h = answer-accepted (payloadChecks p) _ _ h
+read-accepted own p h = answer-accepted (payloadChecks own p) _ _ h
 
-pub data-accepted : (p : List ℕ) → first (payloadChecks p) ≡ 0 → dataRead p ≡ dataOf p
+pub data-accepted : (own : ℕ) (p : List ℕ) → first (payloadChecks own p) ≡ 0 → dataRead own p ≡ dataOf p
 unfolding dataRead
-data-accepted p h = answer-accepted (payloadChecks p) _ _ h
+data-accepted own p h = answer-accepted (payloadChecks own p) _ _ h
 
-pub write-shows : (d out : List ℕ) → writeOf d out .answer .refusal ≡ first (writeChecks d (length out))
+pub write-shows : (own : ℕ) (d out : List ℕ) → writeOf own d out .answer .refusal ≡ first (writeChecks own d (length out))
 unfolding writeOf
-write-shows d out = written-shows (writeChecks d (length out)) (payloadBytes d) out
+write-shows own d out = written-shows (writeChecks own d (length out)) (payloadBytes d) out
 
-pub write-accepted : (d out : List ℕ) → first (writeChecks d (length out)) ≡ 0
-    → writeOf d out ≡ record { answer = record { refusal = 0; bytes = 2 + length d }; out = overlay 0 (payloadBytes d) out }
+pub write-accepted : (own : ℕ) (d out : List ℕ) → first (writeChecks own d (length out)) ≡ 0
+    → writeOf own d out ≡ record { answer = record { refusal = 0; bytes = 2 + length d }; out = overlay 0 (payloadBytes d) out }
 unfolding writeOf
-write-accepted d out h = written-accepted (writeChecks d (length out)) (payloadBytes d) out h ∙ rw (two-more (length d))
+write-accepted own d out h = written-accepted (writeChecks own d (length out)) (payloadBytes d) out h ∙ rw (two-more (length d))
   where
     two-more : (n : ℕ) → suc (suc n) ≡ 2 + n
     two-more n = omega arith
 
 -- a refusal gives zeros and no data, and leaves the output as it was
-pub read-refused : (p : List ℕ) → (first (payloadChecks p) ≡ 0 → ⊥)
-    → (payloadOf p ≡ record { refusal = first (payloadChecks p); bytes = 0 }) × (dataRead p ≡ [])
+pub read-refused : (own : ℕ) (p : List ℕ) → (first (payloadChecks own p) ≡ 0 → ⊥)
+    → (payloadOf own p ≡ record { refusal = first (payloadChecks own p); bytes = 0 }) × (dataRead own p ≡ [])
 unfolding payloadOf dataRead
-read-refused p h = (answer-refused (payloadChecks p) _ _ h, answer-refused (payloadChecks p) _ _ h)
+read-refused own p h = (answer-refused (payloadChecks own p) _ _ h, answer-refused (payloadChecks own p) _ _ h)
 
-pub write-refused : (d out : List ℕ) → (first (writeChecks d (length out)) ≡ 0 → ⊥)
-    → writeOf d out ≡ record { answer = record { refusal = first (writeChecks d (length out)); bytes = 0 }; out = out }
+pub write-refused : (own : ℕ) (d out : List ℕ) → (first (writeChecks own d (length out)) ≡ 0 → ⊥)
+    → writeOf own d out ≡ record { answer = record { refusal = first (writeChecks own d (length out)); bytes = 0 }; out = out }
 unfolding writeOf
-write-refused d out h = written-refused (writeChecks d (length out)) (payloadBytes d) out h
+write-refused own d out h = written-refused (writeChecks own d (length out)) (payloadBytes d) out h

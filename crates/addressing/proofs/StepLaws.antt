@@ -10,7 +10,7 @@ use denote.Ref.{RefT, now}
 use borrow.Author.Tests.{eqb-true, eqb-false, eq-eqb, ne-eqb}
 use Rattle.fields.proofs.Cases.{cases}
 use Rattle.addressing.proofs.WalkLaws.{walk-shows, walk-refused, walk-ended, walk-all}
-use Rattle.addressing.specs.Data.{faultOf}
+use Rattle.addressing.specs.Data.{house, faultOf}
 use Rattle.addressing.specs.Steps.{placeAfter, takenOf, freshWalk, movedTo, foundBy, steppedOf, stepsBy}
 use Rattle.addressing.specs.Walk.{functionsFor, given, ended, refused, walkOf, unlessEnd, answersBy}
 use Rattle.addressing.specs.declared.Walked.{Walked}
@@ -33,7 +33,7 @@ after-answer w at h = rw (eq-eqb (w .refusal) 0 h)
 abbrev taken : Walked → ℕ → Taken
 taken w at = record { answer = w; at = at }
 
-module _ (d : List ℕ) (tx at : ℕ) (w : Walked) (e : w ≡ walkOf d tx at) where
+module _ (d : List ℕ) (tx at : ℕ) (w : Walked) (e : w ≡ walkOf house d tx at) where
   pub taken-refused : (w .refusal ≡ 0 → ⊥) → taken w at ≡ takenOf d tx at
   taken-refused h = ap (taken w) (sym (after-refusal w at h)) ∙ ap (λ (x : Walked). taken x (placeAfter x at)) e
 
@@ -54,8 +54,8 @@ module _ (w : Walk) where
   -- THE REFUSED STEP (01: a refusal returns its number and zeros, and hands back the old state)
   pub step-refused : (foundBy w .refusal ≡ 0 → ⊥) → steppedOf w ≡ record { answer = refused (foundBy w .refusal); walk = w }
   step-refused h =
-      let shows = walk-shows (now (w .«data»)) (w .transmitter) (w .at) in
-      let e = walk-refused (now (w .«data»)) (w .transmitter) (w .at) (λ z. h (shows ∙ z)) ∙ ap refused (sym shows) in
+      let shows = walk-shows house (now (w .«data»)) (w .transmitter) (w .at) in
+      let e = walk-refused house (now (w .«data»)) (w .transmitter) (w .at) (λ z. h (shows ∙ z)) ∙ ap refused (sym shows) in
       let stays = ap (movedTo w) (after-refusal (foundBy w) (w .at) h) in
       λ i. record { answer = e i; walk = stays i }
 
@@ -69,27 +69,27 @@ unless-refused : (w : Walked) (n : ℕ) → w ≡ refused n → (l m : List Walk
 unless-refused w n e l m = rw e
 
 -- steps give what calls give that each go on from the place named by the last
-steps-answers : (k : ℕ) (w : Walk) → stepsBy k w ≡ answersBy k (now (w .«data»)) (w .transmitter) (w .at)
+steps-answers : (k : ℕ) (w : Walk) → stepsBy k w ≡ answersBy k house (now (w .«data»)) (w .transmitter) (w .at)
 unfolding stepsBy answersBy
 steps-answers zero w = refl
 steps-answers (suc k) w =
     let d = now (w .«data») in
     ap (λ (ws : List Walked). foundBy w ∷ ws)
     (cases (eqb (foundBy w .refusal) 0)
-    (λ t. ap (unlessEnd (foundBy w .step)) (steps-answers k (steppedOf w .walk) ∙ ap (answersBy k d (w .transmitter)) (after-answer (foundBy w) (w .at) (eqb-true (foundBy w .refusal) 0 t))))
-    (λ t. unless-refused (foundBy w) (foundBy w .refusal) (ap (λ (s : Stepped). s .answer) (step-refused w (eqb-false (foundBy w .refusal) 0 t))) (stepsBy k (steppedOf w .walk)) (answersBy k d (w .transmitter) (foundBy w .next))))
+    (λ t. ap (unlessEnd (foundBy w .step)) (steps-answers k (steppedOf w .walk) ∙ ap (answersBy k house d (w .transmitter)) (after-answer (foundBy w) (w .at) (eqb-true (foundBy w .refusal) 0 t))))
+    (λ t. unless-refused (foundBy w) (foundBy w .refusal) (ap (λ (s : Stepped). s .answer) (step-refused w (eqb-false (foundBy w .refusal) 0 t))) (stepsBy k (steppedOf w .walk)) (answersBy k house d (w .transmitter) (foundBy w .next))))
 
-module _ (d : RefT (List ℕ)) (tx : ℕ) (short : length (now d) ≤ 255) (good : faultOf (now d) ≡ 0) where
+module _ (d : RefT (List ℕ)) (tx : ℕ) (short : length (now d) ≤ 255) (good : faultOf house (now d) .refusal ≡ 0) where
   -- THE WHOLE WALK BY STEPS (01: a walk keeps its place, and gives the functions of that identifier and of broadcast, in order): from a
   -- fresh walk of good data, steps give each function for the transmitter once, and then the end
-  pub steps-all : (k : ℕ) → length (functionsFor tx (now d)) < k → stepsBy k (freshWalk d tx) ≡ map given (functionsFor tx (now d)) ++ (ended (length (now d)) ∷ [])
-  steps-all k h = steps-answers k (freshWalk d tx) ∙ walk-all (now d) tx short good k h
+  pub steps-all : (k : ℕ) → length (functionsFor house tx (now d)) < k → stepsBy k (freshWalk d tx) ≡ map given (functionsFor house tx (now d)) ++ (ended (length (now d)) ∷ [])
+  steps-all k h = steps-answers k (freshWalk d tx) ∙ walk-all house (now d) tx short good k h
 
   -- a walk at the data's end answers none, and stays there
   pub step-ended : steppedOf (movedTo (freshWalk d tx) (length (now d))) ≡ record { answer = ended (length (now d)); walk = movedTo (freshWalk d tx) (length (now d)) }
   step-ended =
-      let e = walk-ended (now d) tx short good in
+      let e = walk-ended house (now d) tx short good in
       λ i. record { answer = e i; walk = movedTo (freshWalk d tx) (after-end i) }
     where
-      after-end : placeAfter (walkOf (now d) tx (length (now d))) (length (now d)) ≡ length (now d)
-      after-end = ap (λ (x : Walked). placeAfter x (length (now d))) (walk-ended (now d) tx short good) ∙ after-answer (ended (length (now d))) (length (now d)) refl
+      after-end : placeAfter (walkOf house (now d) tx (length (now d))) (length (now d)) ≡ length (now d)
+      after-end = ap (λ (x : Walked). placeAfter x (length (now d))) (walk-ended house (now d) tx short good) ∙ after-answer (ended (length (now d))) (length (now d)) refl

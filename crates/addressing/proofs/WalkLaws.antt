@@ -1,65 +1,49 @@
--- What a walk answers of good data, and a whole walk: it gives the functions for a transmitter, in order, each once.
+-- What a walk answers of good data, and a whole walk: it gives the functions for a transmitter, in order, each once. For any
+-- counting.
 -- Assumes nothing.
 use mathlib.Core.Path.{_≡_, refl, sym, ap, _∙_, subst}
-use mathlib.Core.Bool.{cond}
-use mathlib.Core.List.{List, [], _∷_, _++_, map, append-assoc}
+use mathlib.Core.Bool.{Bool, true, false, _||_}
+use mathlib.Core.List.{List, [], _∷_, _++_, map, append-assoc, append-nil}
 use Prim.Native.Nat.{ℕ, zero, suc, _+_, _≤_, _<_}
 use native.Mathlib.Omega.{arith}
 use lib.Dec.{eqb, leb}
 use lib.ListN.{length}
-use borrow.Author.Tests.{lt-ltb, le-ltb, eq-eqb, ne-eqb}
+use borrow.Author.Tests.{lt-ltb, le-ltb, le-leb, lt-leb, eq-eqb}
 use Rattle.fields.proofs.Cases.{cases}
 use Rattle.refusals.specs.Checks.{first}
 use Rattle.refusals.specs.Answers.{answer}
 use Rattle.refusals.proofs.AnswerLaws.{answer-shows, answer-refused}
-use Rattle.addressing.proofs.HeldLaws.{Rising, rising-upto, rising-heard, held-rising}
-use Rattle.addressing.proofs.ScanLaws.{scan-nothing, scan-given, scan-on, goOn, scan-append, scan-walk}
-use Rattle.addressing.specs.Data.{Placed, endOf, heldIn, faultOf}
-use Rattle.addressing.specs.Scan.{scanOf, answerOf}
-use Rattle.addressing.specs.Walk.{functionsFor, reached, given, ended, stepIn, walkChecks, refused, walkOf, answersBy}
-use Rattle.addressing.specs.declared.Scan.the-variants.{Passed}
+use Rattle.addressing.proofs.DataLaws.{Rising, rising-upto, for-rising}
+use Rattle.addressing.specs.Data.{Placed, endOf, faultOf}
+use Rattle.addressing.specs.Walk.{functionsFor, endsAt, reached, given, ended, stepIn, refused, walkChecks, walkOf, answersBy}
 use Rattle.addressing.specs.declared.Walked.{Walked}
 
--- the functions for a transmitter rise too
-pub for-rising : (tx : ℕ) (d : List ℕ) → Rising 0 (length d) (functionsFor tx d)
-unfolding functionsFor
-for-rising tx d = rising-heard tx 0 (length d) (heldIn d .functions) (held-rising d)
-
--- data that is too long, and data with a fault
-pub walk-long : (d : List ℕ) (tx place : ℕ) → 255 < length d → walkOf d tx place ≡ refused 38
-unfolding walkOf walkChecks answer
-walk-long d tx place h = rw (lt-ltb 255 (length d) h)
-
-pub walk-fault : (d : List ℕ) (tx place : ℕ) → length d ≤ 255 → (faultOf d ≡ 0 → ⊥) → walkOf d tx place ≡ refused (faultOf d)
-unfolding walkOf walkChecks answer
-walk-fault d tx place h b = simp (le-ltb 255 (length d) h, ne-eqb (faultOf d) 0 b)
-
--- what a walk shows; a refusal gives zeros and no function
-step-accepts : (fs : List Placed) (place end : ℕ) → stepIn fs place end .refusal ≡ 0
-unfolding stepIn
-step-accepts [] place end = refl
-step-accepts (f ∷ fs) place end = cases (leb (place + 2) (f .start)) (λ t. rw t) (λ t. rw t (step-accepts fs place end))
-
-pub walk-shows : (d : List ℕ) (tx place : ℕ) → walkOf d tx place .refusal ≡ first (walkChecks d tx place)
-unfolding walkOf
-walk-shows d tx place =
-    answer-shows (walkChecks d tx place) refused _ (λ (w : Walked). w .refusal) (λ n. refl) (step-accepts (functionsFor tx d) place (length d))
-
-pub walk-refused : (d : List ℕ) (tx place : ℕ) → (first (walkChecks d tx place) ≡ 0 → ⊥) → walkOf d tx place ≡ refused (first (walkChecks d tx place))
-unfolding walkOf
-walk-refused d tx place h = answer-refused (walkChecks d tx place) refused _ h
-
-module _ (d : List ℕ) (tx place : ℕ) (short : length d ≤ 255) (good : faultOf d ≡ 0) where
-  -- of good data only the place can be refused
-  walk-good : walkOf d tx place ≡ cond (reached tx d place) (stepIn (functionsFor tx d) place (length d)) (refused 38)
+module _ (own : ℕ) where
+  -- data that is too long
+  pub walk-long : (d : List ℕ) (tx place : ℕ) → 255 < length d → walkOf own d tx place ≡ refused 38
   unfolding walkOf walkChecks answer
-  walk-good =
-      rw (le-ltb 255 (length d) short, eq-eqb (faultOf d) 0 good)
-      (cases (reached tx d place) (λ t. rw t) (λ t. rw t))
+  walk-long d tx place h = rw (lt-ltb 255 (length d) h)
 
-  pub walk-scan : walkOf d tx place ≡ answerOf place (length d) (scanOf 0 place (functionsFor tx d))
-  unfolding reached
-  walk-scan = walk-good ∙ sym (scan-walk 0 place (length d) (functionsFor tx d) (for-rising tx d))
+  -- what a walk shows; a refusal gives zeros and no function
+  step-accepts : (fs : List Placed) (place end : ℕ) → stepIn fs place end .refusal ≡ 0
+  unfolding stepIn
+  step-accepts [] place end = refl
+  step-accepts (f ∷ fs) place end = cases (leb (place + 2) (f .start)) (λ t. rw t) (λ t. rw t (step-accepts fs place end))
+
+  pub walk-shows : (d : List ℕ) (tx place : ℕ) → walkOf own d tx place .refusal ≡ first (walkChecks own d tx place)
+  unfolding walkOf
+  walk-shows d tx place =
+      answer-shows (walkChecks own d tx place) refused _ (λ (w : Walked). w .refusal) (λ n. refl) (step-accepts (functionsFor own tx d) place (length d))
+
+  pub walk-refused : (d : List ℕ) (tx place : ℕ) → (first (walkChecks own d tx place) ≡ 0 → ⊥) → walkOf own d tx place ≡ refused (first (walkChecks own d tx place))
+  unfolding walkOf
+  walk-refused d tx place h = answer-refused (walkChecks own d tx place) refused _ h
+
+  -- of good data every place that it reaches is answered
+  walk-good : (d : List ℕ) (tx place : ℕ) → length d ≤ 255 → faultOf own d .refusal ≡ 0 → reached own tx d place ≡ true
+      → walkOf own d tx place ≡ stepIn (functionsFor own tx d) place (length d)
+  unfolding walkOf walkChecks answer
+  walk-good d tx place short good r = rw (le-ltb 255 (length d) short, eq-eqb (faultOf own d .refusal) 0 good, r)
 
 -- ---- a whole walk
 
@@ -76,52 +60,64 @@ rising-split : (from to : ℕ) (fs gs : List Placed) → Rising from to (fs ++ g
 rising-split from to [] gs r = (omega arith, r)
 rising-split from to (f ∷ fs) gs r = let s = rising-split (endOf f) to fs gs (r .1) in ((r .0, s .0), s .1)
 
--- all that end at a place or before it are passed
-scan-past : (from to place : ℕ) (fs : List Placed) → Rising from to fs → to ≤ place → scanOf from place fs ≡ Passed (lastEnd from fs)
-scan-past from to place [] r h = scan-nothing from place [] refl
-scan-past from to place (f ∷ fs) r h =
-    scan-on from place f fs (omega (arith, rising-upto (endOf f) to fs (r .1))) ∙ scan-past (endOf f) to place fs (r .1) h
+or-true : (a : Bool) → (a || true) ≡ true
+or-true true = refl
+or-true false = refl
 
-module _ (d : List ℕ) (tx : ℕ) (short : length d ≤ 255) (good : faultOf d ≡ 0) where
-  module _ (pre post : List Placed) (e : functionsFor tx d ≡ pre ++ post) where
+-- the last of them ends where one of them ends
+ends-there : (f : Placed) (fs gs : List Placed) → endsAt (lastEnd (endOf f) fs) (f ∷ (fs ++ gs)) ≡ true
+unfolding endsAt
+ends-there f [] gs = rw (eq-eqb (endOf f) (endOf f) refl)
+ends-there f (g ∷ fs) gs = rw (ends-there g fs gs, or-true (eqb (lastEnd (endOf g) fs) (endOf f)))
+
+-- all that end at a place or before it are passed
+step-past : (from to place end : ℕ) (fs gs : List Placed) → Rising from to fs → to ≤ place → stepIn (fs ++ gs) place end ≡ stepIn gs place end
+unfolding stepIn
+step-past from to place end [] gs r h = refl
+step-past from to place end (f ∷ fs) gs r h =
+    let before : endOf f ≤ to = rising-upto (endOf f) to fs (r .1) in
+    rw (lt-leb (place + 2) (f .start) (omega arith)) (step-past (endOf f) to place end fs gs (r .1) h)
+
+module _ (own : ℕ) (d : List ℕ) (tx : ℕ) (short : length d ≤ 255) (good : faultOf own d .refusal ≡ 0) where
+  is-reached : (pre post : List Placed) → functionsFor own tx d ≡ pre ++ post → reached own tx d (lastEnd 0 pre) ≡ true
+  unfolding reached
+  is-reached [] q h = refl
+  is-reached (f ∷ fs) q h = rw (h, ends-there f fs q, or-true (eqb (lastEnd (endOf f) fs) 0 || eqb (lastEnd (endOf f) fs) (length d)))
+
+  module _ (pre post : List Placed) (e : functionsFor own tx d ≡ pre ++ post) where
     -- the place just after the first functions, and how the others rise from there
     abbrev place : ℕ
     place = lastEnd 0 pre
 
     split : Rising 0 place pre × Rising place (length d) post
-    split = rising-split 0 (length d) pre post (subst (Rising 0 (length d)) e (for-rising tx d))
+    split = rising-split 0 (length d) pre post (subst (Rising 0 (length d)) e (for-rising own tx d))
 
-    walk-there : walkOf d tx place ≡ answerOf place (length d) (scanOf place place post)
+    walk-there : walkOf own d tx place ≡ stepIn post place (length d)
     walk-there =
-        walk-scan d tx place short good
-        ∙ ap (answerOf place (length d))
-        (ap (scanOf 0 place) e
-        ∙ scan-append 0 place pre post
-        ∙ ap (goOn place post) (scan-past 0 place place pre (split .0) (omega arith)))
+        walk-good own d tx place short good (is-reached pre post e)
+        ∙ ap (λ (fs : List Placed). stepIn fs place (length d)) e
+        ∙ step-past 0 place place (length d) pre post (split .0) (omega arith)
 
-  walk-end : (pre : List Placed) → functionsFor tx d ≡ pre ++ [] → walkOf d tx (lastEnd 0 pre) ≡ ended (length d)
-  unfolding answerOf
-  walk-end pre e =
-      let p = lastEnd 0 pre in
-      walk-there pre [] e ∙ ap (answerOf p (length d)) (scan-nothing p p [] refl) ∙ rw (eq-eqb p p refl)
+  walk-end : (pre : List Placed) → functionsFor own tx d ≡ pre ++ [] → walkOf own d tx (lastEnd 0 pre) ≡ ended (length d)
+  unfolding stepIn
+  walk-end pre e = walk-there pre [] e
 
   -- at the data's end there is none, however it was reached
-  pub walk-ended : walkOf d tx (length d) ≡ ended (length d)
-  unfolding answerOf
+  pub walk-ended : walkOf own d tx (length d) ≡ ended (length d)
+  unfolding reached stepIn
   walk-ended =
       let n = length d in
-      walk-scan d tx n short good
-      ∙ ap (answerOf n n) (scan-past 0 n n (functionsFor tx d) (for-rising tx d) (omega arith))
-      ∙ cases (eqb n (lastEnd 0 (functionsFor tx d))) (λ t. rw t) (λ t. rw (t, eq-eqb n n refl))
+      let fs = functionsFor own tx d in
+      walk-good own d tx n short good (rw (eq-eqb n n refl, or-true (eqb n 0)))
+      ∙ ap (λ (l : List Placed). stepIn l n n) (sym (append-nil fs))
+      ∙ step-past 0 n n n fs [] (for-rising own tx d) (omega arith)
 
-  walk-next : (pre : List Placed) (g : Placed) (gs : List Placed) → functionsFor tx d ≡ pre ++ g ∷ gs → walkOf d tx (lastEnd 0 pre) ≡ given g
-  unfolding answerOf
-  walk-next pre g gs e =
-      let p = lastEnd 0 pre in
-      walk-there pre (g ∷ gs) e ∙ ap (answerOf p (length d)) (scan-given p p g gs (split pre (g ∷ gs) e .1 .0) refl)
+  walk-next : (pre : List Placed) (g : Placed) (gs : List Placed) → functionsFor own tx d ≡ pre ++ g ∷ gs → walkOf own d tx (lastEnd 0 pre) ≡ given g
+  unfolding stepIn
+  walk-next pre g gs e = walk-there pre (g ∷ gs) e ∙ rw (le-leb (lastEnd 0 pre + 2) (g .start) (split pre (g ∷ gs) e .1 .0))
 
-  all-from : (post pre : List Placed) (k : ℕ) → functionsFor tx d ≡ pre ++ post → length post < k
-      → answersBy k d tx (lastEnd 0 pre) ≡ map given post ++ (ended (length d) ∷ [])
+  all-from : (post pre : List Placed) (k : ℕ) → functionsFor own tx d ≡ pre ++ post → length post < k
+      → answersBy k own d tx (lastEnd 0 pre) ≡ map given post ++ (ended (length d) ∷ [])
   unfolding answersBy
   all-from [] pre zero e h = absurd (omega arith)
   all-from [] pre (suc k) e h = rw (walk-end pre e)
@@ -131,9 +127,8 @@ module _ (d : List ℕ) (tx : ℕ) (short : length d ≤ 255) (good : faultOf d 
       (ap (λ (ws : List Walked). given g ∷ ws)
       (rw (last-more 0 pre g) at (all-from gs (pre ++ (g ∷ [])) k (e ∙ sym (append-assoc pre (g ∷ []) gs)) (omega arith))))
 
--- THE WHOLE WALK (01: it gives the functions of that identifier and of broadcast, in order). From 0, and each time on
--- from the place that was answered, a walk of good data gives each function for the transmitter once, as its tag, start
--- and body, and then says that it is at the data's end; it is never refused
-pub walk-all : (d : List ℕ) (tx : ℕ) → length d ≤ 255 → faultOf d ≡ 0 → (k : ℕ) → length (functionsFor tx d) < k
-    → answersBy k d tx 0 ≡ map given (functionsFor tx d) ++ (ended (length d) ∷ [])
-walk-all d tx short good k h = all-from d tx short good (functionsFor tx d) [] k refl h
+  -- THE WHOLE WALK (01: it gives the functions of that identifier and of broadcast, in order). From 0, and each time on
+  -- from the place that was answered, a walk of good data gives each function for the transmitter once, as its tag, start
+  -- and body, and then says that it is at the data's end; it is never refused
+  pub walk-all : (k : ℕ) → length (functionsFor own tx d) < k → answersBy k own d tx 0 ≡ map given (functionsFor own tx d) ++ (ended (length d) ∷ [])
+  walk-all k h = all-from (functionsFor own tx d) [] k refl h

@@ -1,37 +1,19 @@
--- The groups of addressing data, for what is said of them: functions lie within their loops and take all their bytes, and
--- a transmitter gets the same of all data that agree on the groups it hears.
-use Prim.Native.Nat.{ℕ, zero, suc, _+_, _≤_}
+-- What is said of the groups of addressing data: functions lie within their loops and take all their bytes, a fault's place lies
+-- in the data, and a transmitter gets the same of all data that agree on the groups it hears.
+use Prim.Native.Nat.{ℕ, _+_, _≤_, _<_}
 use mathlib.Core.Path.{_≡_}
-use mathlib.Core.Bool.{cond}
-use mathlib.Core.List.{List, [], _∷_, _++_}
-use lib.ListN.{length, drop}
+use mathlib.Core.List.{List, [], _∷_, map}
+use lib.ListN.{length}
 use Rattle.fields.specs.Parts.{part}
-use Rattle.addressing.specs.Data.{ownerOf, groupSize, loopBytes, groupCut, Placed, endOf, loopIn}
-use Rattle.addressing.specs.Walk.{hears}
+use Rattle.addressing.specs.Data.{Group, Placed, endOf, groupsOf, loopIn}
+use Rattle.addressing.specs.Walk.{heardOf}
+use Rattle.addressing.specs.declared.Fault.{Fault}
 
-pub record Group : Type 0 where
-  pub owner : ℕ
-  pub start : ℕ  -- where its loop starts
-  pub loop : List ℕ  -- its loop's bytes
+-- ---- a fault's place is 0 where there is none, and else that of a byte before `end`
 
--- the group at the front of l, which lies at place `at`
-abbrev pub groupAt : ℕ → List ℕ → Group
-groupAt at l = record { owner = ownerOf l; start = at + 3; loop = loopBytes l }
-
--- the groups of data whose bytes are l, from place `at` on, up to a cut one; k bounds how many
-unfoldable pub groupListBy : ℕ → ℕ → List ℕ → List Group
-groupListBy zero at l = []
-groupListBy (suc k) at [] = []
-groupListBy (suc k) at (b ∷ bs) =
-    let l = b ∷ bs in
-    let rest = groupListBy k (at + groupSize l) (drop (groupSize l) l) in
-    cond (groupCut l) [] (groupAt at l ∷ rest)
-
-unfoldable pub groupsOf : List ℕ → List Group
-groupsOf d = groupListBy (length d) 0 d
-
-abbrev pub functionsIn : Group → List Placed
-functionsIn g = loopIn (g .owner) (g .start) (g .loop) .functions
+pub record Points (end : ℕ) (f : Fault) : Type 0 where
+  pub nowhere : f .refusal ≡ 0 → f .place ≡ 0
+  pub before : (f .refusal ≡ 0 → ⊥) → f .place < end
 
 -- ---- bodies lie within their functions, functions within their loop, and the loop within the data
 
@@ -42,14 +24,14 @@ AllBetween from to (f ∷ fs) = ((from + 2 ≤ f .start) × (endOf f ≤ to)) ×
 abbrev pub loopEnd : Group → ℕ
 loopEnd g = g .start + length (g .loop)
 
-pub record Within (d : List ℕ) (g : Group) : Type 0 where
+pub record Within (own : ℕ) (d : List ℕ) (g : Group) : Type 0 where
   pub bytes : part (g .start) (length (g .loop)) d ≡ g .loop
   pub loop : loopEnd g ≤ length d
-  pub functions : AllBetween (g .start) (loopEnd g) (functionsIn g)
+  pub functions : AllBetween (g .start) (loopEnd g) (loopIn own g .entries)
 
-abbrev pub AllWithin : List ℕ → List Group → Type 0
-AllWithin d [] = Unit
-AllWithin d (g ∷ gs) = Within d g × AllWithin d gs
+abbrev pub AllWithin : ℕ → List ℕ → List Group → Type 0
+AllWithin own d [] = Unit
+AllWithin own d (g ∷ gs) = Within own d g × AllWithin own d gs
 
 -- ---- functions one after the other from a place to another with no byte between, and groups so
 
@@ -57,23 +39,15 @@ abbrev pub Follow : ℕ → ℕ → List Placed → Type 0
 Follow from to [] = from ≡ to
 Follow from to (f ∷ fs) = (f .start ≡ from + 2) × Follow (endOf f) to fs
 
-abbrev pub GroupsFollow : ℕ → ℕ → List Group → Type 0
-GroupsFollow from to [] = from ≡ to
-GroupsFollow from to (g ∷ gs) = (g .start ≡ from + 3) × Follow (g .start) (loopEnd g) (functionsIn g) × GroupsFollow (loopEnd g) to gs
-
--- all functions of some groups
-unfoldable pub functionsOf : List Group → List Placed
-functionsOf [] = []
-functionsOf (g ∷ gs) = functionsIn g ++ functionsOf gs
+abbrev pub GroupsFollow : ℕ → ℕ → ℕ → List Group → Type 0
+GroupsFollow own from to [] = from ≡ to
+GroupsFollow own from to (g ∷ gs) =
+    (g .start ≡ from + 3) × Follow (g .start) (loopEnd g) (loopIn own g .entries) × GroupsFollow own (loopEnd g) to gs
 
 -- ---- what a transmitter hears: identifiers and loops, and what it is given: tags and bodies
 
-unfoldable pub heardIn : ℕ → List Group → List (ℕ × List ℕ)
-heardIn tx [] = []
-heardIn tx (g ∷ gs) = let on = heardIn tx gs in cond (hears tx (g .owner)) ((g .owner, g .loop) ∷ on) on
-
 abbrev pub heardGroups : ℕ → List ℕ → List (ℕ × List ℕ)
-heardGroups tx d = heardIn tx (groupsOf d)
+heardGroups tx d = map (λ (g : Group). (g .owner, g .loop)) (heardOf tx (groupsOf d))
 
 unfoldable pub tagsAndBodies : List ℕ → List Placed → List (ℕ × List ℕ)
 tagsAndBodies d [] = []

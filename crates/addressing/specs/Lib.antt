@@ -4,5 +4,5 @@ pub mod Payload
 pub mod Walk
 pub mod Steps
 pub mod Groups
-pub mod Scan
+pub mod Cursor
 pub mod Rows

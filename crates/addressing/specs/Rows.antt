@@ -1,49 +1,54 @@
--- Small data and the fault of each, one row for each way in which data is good or bad; and walks of one small data.
+-- Small data and the fault of each with its place, one row for each way in which data is good or bad; and walks of one small data. All
+-- by the house rule.
 use Prim.Native.Nat.{ℕ}
 use mathlib.Core.Path.{_≡_}
 use mathlib.Core.List.{List, [], _∷_}
-use Rattle.addressing.specs.Data.{faultOf}
+use Rattle.addressing.specs.Data.{house, faultOf}
 use Rattle.addressing.specs.Walk.{ended, refused, walkOf}
+use Rattle.addressing.specs.declared.Fault.{Fault}
 use Rattle.addressing.specs.declared.Step.the-variants.{Given}
 use Rattle.addressing.specs.declared.Walked.{Walked}
 
 pub record Row : Type 0 where
   pub bytes : List ℕ
-  pub fault : ℕ
+  pub fault : Fault
 
-abbrev row : List ℕ → ℕ → Row
-row l n = record { bytes = l; fault = n }
+abbrev row : List ℕ → ℕ → ℕ → Row
+row l n at = record { bytes = l; fault = record { refusal = n; place = at } }
 
 abbrev pub rows : List Row
 rows =
     -- no groups at all
-    row [] 0
+    row [] 0 0
     -- an empty loop
-    ∷ row (0x12 ∷ 0x34 ∷ 0 ∷ []) 0
+    ∷ row (0x12 ∷ 0x34 ∷ 0 ∷ []) 0 0
     -- a time offset, and a bandwidth of 5 MHz with its wait flag, for two transmitters
-    ∷ row (0 ∷ 1 ∷ 4 ∷ 0 ∷ 4 ∷ 0x80 ∷ 0 ∷ 0 ∷ 2 ∷ 3 ∷ 6 ∷ 3 ∷ 1 ∷ []) 0
+    ∷ row (0 ∷ 1 ∷ 4 ∷ 0 ∷ 4 ∷ 0x80 ∷ 0 ∷ 0 ∷ 2 ∷ 3 ∷ 6 ∷ 3 ∷ 1 ∷ []) 0 0
     -- a header of two bytes
-    ∷ row (0 ∷ 1 ∷ []) 26
+    ∷ row (0 ∷ 1 ∷ []) 26 0
     -- a loop that passes the end by one byte
-    ∷ row (0 ∷ 1 ∷ 3 ∷ 3 ∷ 2 ∷ []) 26
+    ∷ row (0 ∷ 1 ∷ 3 ∷ 3 ∷ 2 ∷ []) 26 0
     -- one byte left in a loop
-    ∷ row (0 ∷ 1 ∷ 1 ∷ 3 ∷ []) 27
+    ∷ row (0 ∷ 1 ∷ 1 ∷ 3 ∷ []) 27 3
     -- a function_length of 1
-    ∷ row (0 ∷ 1 ∷ 2 ∷ 3 ∷ 1 ∷ []) 27
+    ∷ row (0 ∷ 1 ∷ 2 ∷ 3 ∷ 1 ∷ []) 27 3
     -- a function that passes its loop, though not the data
-    ∷ row (0 ∷ 1 ∷ 2 ∷ 3 ∷ 3 ∷ 0 ∷ 1 ∷ 0 ∷ []) 27
+    ∷ row (0 ∷ 1 ∷ 2 ∷ 3 ∷ 3 ∷ 0 ∷ 1 ∷ 0 ∷ []) 27 3
     -- a time offset of one byte
-    ∷ row (0 ∷ 1 ∷ 3 ∷ 0 ∷ 3 ∷ 0 ∷ []) 28
+    ∷ row (0 ∷ 1 ∷ 3 ∷ 0 ∷ 3 ∷ 0 ∷ []) 28 3
     -- a bandwidth of 1
-    ∷ row (0 ∷ 1 ∷ 3 ∷ 6 ∷ 3 ∷ 2 ∷ []) 29
+    ∷ row (0 ∷ 1 ∷ 3 ∷ 6 ∷ 3 ∷ 2 ∷ []) 29 3
     -- the first bad place decides, whatever its number: 29 before 28, and 28 before 26
-    ∷ row (0 ∷ 1 ∷ 6 ∷ 6 ∷ 3 ∷ 2 ∷ 0 ∷ 3 ∷ 0 ∷ []) 29
-    ∷ row (0 ∷ 1 ∷ 3 ∷ 0 ∷ 3 ∷ 0 ∷ 0 ∷ []) 28
+    ∷ row (0 ∷ 1 ∷ 6 ∷ 6 ∷ 3 ∷ 2 ∷ 0 ∷ 3 ∷ 0 ∷ []) 29 3
+    ∷ row (0 ∷ 1 ∷ 3 ∷ 0 ∷ 3 ∷ 0 ∷ 0 ∷ []) 28 3
+    -- the second group is cut, and the second function of the second group is of the wrong length
+    ∷ row (0 ∷ 1 ∷ 2 ∷ 3 ∷ 2 ∷ 0 ∷ 2 ∷ []) 26 5
+    ∷ row (0 ∷ 1 ∷ 0 ∷ 0 ∷ 2 ∷ 5 ∷ 3 ∷ 2 ∷ 1 ∷ 3 ∷ 0 ∷ []) 28 8
     ∷ []
 
 abbrev pub AllHold : List Row → Type 0
 AllHold [] = Unit
-AllHold (r ∷ rs) = (faultOf (r .bytes) ≡ r .fault) × AllHold rs
+AllHold (r ∷ rs) = (faultOf house (r .bytes) ≡ r .fault) × AllHold rs
 
 -- ---- walks of three groups: for 1 (a private function of one byte), for 2 (one of none) and for all (tag 7, one byte)
 
@@ -84,4 +89,4 @@ walks =
 
 abbrev pub AllWalk : List WalkRow → Type 0
 AllWalk [] = Unit
-AllWalk (r ∷ rs) = (walkOf walked (r .transmitter) (r .place) ≡ r .answer) × AllWalk rs
+AllWalk (r ∷ rs) = (walkOf house walked (r .transmitter) (r .place) ≡ r .answer) × AllWalk rs

@@ -1,10 +1,11 @@
 -- A walk that keeps the caller's addressing bytes and its place, and what a step of it gives: what `walkOf` says at that
--- place, and the walk at the next one.
+-- place by the house rule, and the walk at the next one.
 use Prim.Native.Nat.{ℕ, zero, suc}
 use mathlib.Core.Bool.{cond}
 use mathlib.Core.List.{List, [], _∷_}
 use lib.Dec.{eqb}
 use denote.Ref.{RefT, now}
+use Rattle.addressing.specs.Data.{house}
 use Rattle.addressing.specs.Walk.{walkOf, unlessEnd}
 use Rattle.addressing.specs.declared.Walked.{Walked}
 use Rattle.addressing.specs.declared.walks.Taken.{Taken}
@@ -16,7 +17,7 @@ unfoldable pub placeAfter : Walked → ℕ → ℕ
 placeAfter w at = cond (eqb (w .refusal) 0) (w .next) at
 
 abbrev pub takenOf : List ℕ → ℕ → ℕ → Taken
-takenOf d tx at = record { answer = walkOf d tx at; at = placeAfter (walkOf d tx at) at }
+takenOf d tx at = record { answer = walkOf house d tx at; at = placeAfter (walkOf house d tx at) at }
 
 -- a walk for a transmitter starts at 0
 abbrev pub freshWalk : RefT (List ℕ) → ℕ → Walk
@@ -27,7 +28,7 @@ abbrev pub movedTo : Walk → ℕ → Walk
 movedTo w place = record { «data» = w .«data»; transmitter = w .transmitter; at = place }
 
 abbrev pub foundBy : Walk → Walked
-foundBy w = walkOf (now (w .«data»)) (w .transmitter) (w .at)
+foundBy w = walkOf house (now (w .«data»)) (w .transmitter) (w .at)
 
 abbrev pub steppedOf : Walk → Stepped
 steppedOf w = record { answer = foundBy w; walk = movedTo w (placeAfter (foundBy w) (w .at)) }

@@ -4,6 +4,7 @@ use super::Walked;
 use super::walk;
 ghost use mathlib.Core.Path.{_≡_};
 ghost use denote.Ref.{now};
+ghost use Rattle.addressing.specs.Data.{house};
 ghost use Rattle.addressing.specs.Walk.{walkOf};
 ghost use Rattle.addressing.specs.Steps.{takenOf, freshWalk, steppedOf};
 
@@ -70,7 +71,7 @@ impl<'a> Walk<'a> {
 // A step from a place, for a caller that keeps slice and place itself: every caller of other crates. Its contract names no struct, so
 // such a caller's proof is covered.
 pub fn walk_from(data: &[u8], transmitter: u16, place: usize) -> Walked
-    ensures { λ r. ⌜ r ≡ walkOf (now («data» .entry)) transmitter place ⌝ }
+    ensures { λ r. ⌜ r ≡ walkOf house (now («data» .entry)) transmitter place ⌝ }
 {
     let mut walk = Walk::new(data, transmitter);
     walk.at = place;

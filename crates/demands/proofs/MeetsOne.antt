@@ -27,6 +27,7 @@ use Rattle.stamp.proofs.RoundTrips as stamp
 use Rattle.functions.specs.Function.{bodyOf}
 use Rattle.functions.specs.Write as functionWriting
 use Rattle.functions.proofs.Accepted as function
+use Rattle.addressing.specs.Data.{house}
 use Rattle.addressing.specs.Payload as addressingPayload
 use Rattle.addressing.proofs.PayloadLaws as addressing
 use Rattle.addressing.proofs.WalkLaws.{walk-shows, walk-refused}
@@ -215,11 +216,11 @@ meets-one =
       functionRead = λ tag body. record { numbered = function.read-shows tag body; refusal = function.read-refused tag body };
       functionWrite = λ f carried out. writes (functionWriting.writeChecks f carried (length out)) (bodyOf f carried) out
           (λ z. function.writable f carried out z .room);
-      addressingRead = λ p. record { numbered = addressing.read-shows p; refusal = λ h. addressing.read-refused p h .0 };
-      addressingData = λ p h. addressing.read-refused p h .1;
-      addressingWrite = λ d out. writes (addressingPayload.writeChecks d (length out)) (addressingPayload.payloadBytes d) out
-          (λ z. omega (arith, addressing.writable d out z .room));
-      walk = λ d tx place. record { numbered = walk-shows d tx place; refusal = walk-refused d tx place };
+      addressingRead = λ p. record { numbered = addressing.read-shows house p; refusal = λ h. addressing.read-refused house p h .0 };
+      addressingData = λ p h. addressing.read-refused house p h .1;
+      addressingWrite = λ d out. writes (addressingPayload.writeChecks house d (length out)) (addressingPayload.payloadBytes d) out
+          (λ z. omega (arith, addressing.writable house d out z .room));
+      walk = λ d tx place. record { numbered = walk-shows house d tx place; refusal = walk-refused house d tx place };
       mipRead = λ p. record { numbered = mip.read-shows p; refusal = λ h. mip.read-refused p h .0 };
       mipAddressing = λ p h. mip.read-refused p h .1;
       mipWrite = λ m d out. writes (mipWriting.writeChecks m d (length out)) (mipWriting.mipBytes m d) out

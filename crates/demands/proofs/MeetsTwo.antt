@@ -16,6 +16,7 @@ use Rattle.stamp.proofs.NullStamps.{null-read}
 use Rattle.stamp.proofs.RoundTrips as stamp
 use Rattle.functions.proofs.Accepted as functionParts
 use Rattle.functions.proofs.RoundTrips as function
+use Rattle.addressing.specs.Data.{house}
 use Rattle.addressing.specs.Payload as addressingParts
 use Rattle.addressing.proofs.PayloadLaws as payload
 use Rattle.addressing.proofs.RoundTrips as addressing
@@ -82,11 +83,11 @@ addressing-two : Addressing ours
 unfolding addressingParts.writeOf
 addressing-two =
     record {
-      reads = payload.read-accepted;
-      data-of = payload.data-accepted;
-      writes = λ d out h. written-accepted (addressingParts.writeChecks d (length out)) (addressingParts.payloadBytes d) out h;
-      back = λ d out e. let r = addressing.read-written d out e in (r .count, r .bytes);
-      forth = addressing.written-read;
+      reads = payload.read-accepted house;
+      data-of = payload.data-accepted house;
+      writes = λ d out h. written-accepted (addressingParts.writeChecks house d (length out)) (addressingParts.payloadBytes d) out h;
+      back = λ d out e. let r = addressing.read-written house d out e in (r .count, r .bytes);
+      forth = addressing.written-read house;
     }
 
 mips-two : Mips ours

@@ -26,6 +26,7 @@ use Rattle.functions.specs.Write as functionWriting
 use Rattle.functions.specs.declared.Function.{Function}
 use Rattle.functions.specs.declared.Function.the-variants.{TimeOffset}
 use Rattle.functions.specs.declared.FunctionRead.{FunctionRead}
+use Rattle.addressing.specs.Data.{house}
 use Rattle.addressing.specs.Payload as addressing
 use Rattle.addressing.specs.Walk.{walkChecks}
 use Rattle.addressing.specs.declared.PayloadRead.{PayloadRead}
@@ -162,10 +163,10 @@ pub record Demand1 (l : Library) : Type 0 where
   pub stampWrite : (s : Stamp) (out : List ℕ) → Writes (stampWriting.writeChecks s (length out)) out (l .stampWrite s out)
   pub functionRead : (tag : ℕ) (body : List ℕ) → Answers (function.readChecks tag body) (λ (r : FunctionRead). r .refusal) noFunction (l .functionRead tag body)
   pub functionWrite : (f : Function) (carried out : List ℕ) → Writes (functionWriting.writeChecks f carried (length out)) out (l .functionWrite f carried out)
-  pub addressingRead : (p : List ℕ) → Answers (addressing.payloadChecks p) (λ (r : PayloadRead). r .refusal) noData (l .addressingRead p)
-  pub addressingData : (p : List ℕ) → Refuses (addressing.payloadChecks p) → l .addressingData p ≡ []
-  pub addressingWrite : (d out : List ℕ) → Writes (addressing.writeChecks d (length out)) out (l .addressingWrite d out)
-  pub walk : (d : List ℕ) (tx place : ℕ) → Answers (walkChecks d tx place) (λ (w : Walked). w .refusal) noStep (l .walk d tx place)
+  pub addressingRead : (p : List ℕ) → Answers (addressing.payloadChecks house p) (λ (r : PayloadRead). r .refusal) noData (l .addressingRead p)
+  pub addressingData : (p : List ℕ) → Refuses (addressing.payloadChecks house p) → l .addressingData p ≡ []
+  pub addressingWrite : (d out : List ℕ) → Writes (addressing.writeChecks house d (length out)) out (l .addressingWrite d out)
+  pub walk : (d : List ℕ) (tx place : ℕ) → Answers (walkChecks house d tx place) (λ (w : Walked). w .refusal) noStep (l .walk d tx place)
   pub mipRead : (p : List ℕ) → Answers (mip.readChecks p) (λ (r : MipRead). r .refusal) noMip (l .mipRead p)
   pub mipAddressing : (p : List ℕ) → Refuses (mip.readChecks p) → l .mipAddressing p ≡ []
   pub mipWrite : (m : Mip) (d out : List ℕ) → Writes (mipWriting.writeChecks m d (length out)) out (l .mipWrite m d out)

@@ -20,6 +20,7 @@ use Rattle.functions.specs.Read as function
 use Rattle.functions.specs.Write as functionWriting
 use Rattle.functions.specs.declared.Function.{Function}
 use Rattle.functions.specs.declared.FunctionRead.{FunctionRead}
+use Rattle.addressing.specs.Data.{house}
 use Rattle.addressing.specs.Payload as addressing
 use Rattle.addressing.specs.Walk.{walkOf}
 use Rattle.addressing.specs.declared.PayloadRead.{PayloadRead}
@@ -89,10 +90,10 @@ ours =
       units = stamp.unitsOf;
       functionRead = function.functionRead;
       functionWrite = functionWriting.writeOf;
-      addressingRead = addressing.payloadOf;
-      addressingData = addressing.dataRead;
-      addressingWrite = addressing.writeOf;
-      walk = walkOf;
+      addressingRead = addressing.payloadOf house;
+      addressingData = addressing.dataRead house;
+      addressingWrite = addressing.writeOf house;
+      walk = walkOf house;
       mipRead = mip.readOf;
       mipAddressing = mip.addressingRead;
       mipWrite = mipWriting.writeOf;

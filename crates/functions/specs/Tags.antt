@@ -7,10 +7,10 @@ use lib.Dec.{eqb, leb, ltb}
 use lib.ListN.{getD}
 use Rattle.fields.specs.Formats.{unpack}
 
--- HOUSE RULE: function_length counts the tag and length bytes too. Only this definition knows how functions are counted;
--- all others speak of the bytes of a body
-abbrev pub functionLength : ℕ → ℕ
-functionLength n = n + 2
+-- HOUSE RULE: function_length counts tag and length bytes too. This number says how many of the function's own two bytes it counts:
+-- what looks at a function_length takes it (addressing, `own`), and all else speaks of the bytes of a body
+abbrev pub house : ℕ
+house = 2
 
 -- ---- the table
 
@@ -54,7 +54,7 @@ bandwidth = 7 ∷ 1 ∷ []
 
 -- a body for which the eight bits of function_length are too few: over 253 bytes (01, refusal 38)
 unfoldable pub bodyLong : ℕ → Bool
-bodyLong n = ltb 255 (functionLength n)
+bodyLong n = ltb 255 (n + house)
 
 abbrev pub unlike : Size → ℕ → Bool
 unlike (exactly k) n = not (eqb n k)

@@ -9,7 +9,7 @@ use lib.Dec.{eqb, ltb}
 use lib.ListN.{length, getD, take, drop, length-drop}
 use lib.Seq.{take-all}
 use borrow.Author.Tests.{lt-ltb, eqb-true, ltb-false, leb-false, not-false}
-use Rattle.addressing.specs.Data.{faultOf}
+use Rattle.addressing.specs.Data.{house, faultOf}
 use Rattle.crc.specs.Crc.{crcHolds}
 use Rattle.fields.specs.Formats.{pack, unpack, Fit, tooWide}
 use Rattle.fields.specs.Numbers.{Bytes, number, bytes}
@@ -124,7 +124,7 @@ pub record Readable (p : List ℕ) : Type 0 where
   pub stamp : parameter 5 p < second
   pub delay : parameter 6 p < second
   pub stuffing : notAllOnes (drop (crcEnd (addressingLength p)) p) ≡ false
-  pub fault : faultOf (addressingOf p) ≡ 0
+  pub fault : faultOf house (addressingOf p) .refusal ≡ 0
 
 differ-not : (xs ys : List ℕ) → differ xs ys ≡ false → xs ≡ ys
 differ-not [] [] h = refl
@@ -144,7 +144,7 @@ section-right s a h =
 pub readable : (p : List ℕ) → first (readChecks p) ≡ 0 → Readable p
 unfolding readChecks
 readable p z =
-    let n = none-found (readChecks p) (stands 0, (stands 4, (stands 29, (stands 30, (stands 31, (stands 13, (stands 32, (stands 33, (stands 34, (found (faultOf (addressingOf p)), tt)))))))))) z in
+    let n = none-found (readChecks p) (stands 0, (stands 4, (stands 29, (stands 30, (stands 31, (stands 13, (stands 32, (stands 33, (stands 34, (found (faultOf house (addressingOf p) .refusal), tt)))))))))) z in
     let s = section-right _ _ (n .1 .1 .1 .1 .0) in
     let late = n .1 .1 .1 .1 .1 in
     record {
@@ -236,13 +236,13 @@ pub record Writable (m : Mip) (d out : List ℕ) : Type 0 where
   pub fit : Fit parameters (parameterFields m (length d))
   pub stamp : m .stamp .0 < second
   pub delay : m .delay .0 < second
-  pub fault : faultOf d ≡ 0
+  pub fault : faultOf house d .refusal ≡ 0
   pub room : 188 ≤ length out
 
 pub writable : (m : Mip) (d out : List ℕ) → first (writeChecks m d (length out)) ≡ 0 → Writable m d out
 unfolding writeChecks
 writable m d out z =
-    let n = none-found (writeChecks m d (length out)) (stands 35, (stands 37, (stands 32, (stands 33, (found (faultOf d), (stands 15, tt)))))) z in
+    let n = none-found (writeChecks m d (length out)) (stands 35, (stands 37, (stands 32, (stands 33, (found (faultOf house d .refusal), (stands 15, tt)))))) z in
     let f = wide-fit m (length d) (n .1 .0) in
     record {
       short = ltb-false _ _ (n .0);

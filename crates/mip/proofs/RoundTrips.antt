@@ -10,7 +10,7 @@ use lib.Dec.{eqb, leb}
 use lib.ListN.{length, getD, take, drop, replicate, length-drop, take-append-drop}
 use lib.Seq.{length-take-le, take-take, take-at, drop-at}
 use borrow.Author.Tests.{le-ltb, lt-leb, eq-eqb, eqb-true, eqb-false}
-use Rattle.addressing.specs.Data.{faultOf}
+use Rattle.addressing.specs.Data.{house, faultOf}
 use Rattle.crc.specs.Crc.{crcOf, crcHolds}
 use Rattle.crc.specs.Sealed.{sealed}
 use Rattle.crc.proofs.OwnLaws.{sealed-append, holds-own, holds-only}
@@ -156,7 +156,7 @@ module _ (m : Mip) (d out : List ℕ) (w : Writable m d out) where
                     ap (leb second) (parameter-is 5) ∙ lt-leb _ _ (w .stamp),
                     (
                       ap (leb second) (parameter-is 6) ∙ lt-leb _ _ (w .delay),
-                      (stuffing-right, (ap not (eq-eqb _ _ (ap faultOf data-back ∙ w .fault)), tt)),
+                      (stuffing-right, (ap not (eq-eqb _ _ (ap (λ (l : List ℕ). faultOf house l .refusal) data-back ∙ w .fault)), tt)),
                     ),
                   ),
                 ),

@@ -8,7 +8,7 @@ use Rattle.crc.specs.Crc.{crcHolds}
 use Rattle.fields.specs.Parts.{part}
 use Rattle.refusals.specs.Checks.{Check, _when_}
 use Rattle.refusals.specs.Answers.{answer}
-use Rattle.addressing.specs.Data.{faultOf}
+use Rattle.addressing.specs.Data.{house, fault}
 use Rattle.transport.specs.Header.{syncOf, errorOf, startOf, priorityOf, pidOf, scramblingOf, controlOf, countOf}
 use Rattle.mip.specs.Layout.{fixedFields, parametersOf, sectionOf, crcEnd, second}
 use Rattle.mip.specs.declared.Mip.{Mip}
@@ -69,7 +69,7 @@ readChecks p =
     ∷ 33 when leb second (parameter 5 p)
     ∷ 34 when leb second (parameter 6 p)
     ∷ 35 when stuffingWrong p
-    ∷ faultOf (addressingOf p) when not (eqb (faultOf (addressingOf p)) 0)
+    ∷ fault house (addressingOf p)
     ∷ []
 
 -- ---- the answers

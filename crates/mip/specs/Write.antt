@@ -1,15 +1,15 @@
 -- Writing a MIP (01: 36, 38, 33, 34, the check of the addressing data, 16).
 use Prim.Native.Nat.{ℕ, _-_}
-use mathlib.Core.Bool.{Bool, true, cond, not}
+use mathlib.Core.Bool.{Bool, true, cond}
 use mathlib.Core.List.{List, [], _∷_, _++_}
-use lib.Dec.{eqb, leb, ltb}
+use lib.Dec.{leb, ltb}
 use lib.ListN.{length, replicate}
 use Rattle.crc.specs.Sealed.{sealed}
 use Rattle.fields.specs.Formats.{pack, tooWide}
 use Rattle.fields.specs.Numbers.{bytes}
 use Rattle.refusals.specs.Checks.{Check, _when_}
 use Rattle.refusals.specs.Answers.{Wrote, written}
-use Rattle.addressing.specs.Data.{faultOf}
+use Rattle.addressing.specs.Data.{house, fault}
 use Rattle.transport.specs.Header.{header}
 use Rattle.mip.specs.Layout.{fixedFields, parameters, sectionOf, crcEnd, second}
 use Rattle.mip.specs.declared.Mip.{Mip}
@@ -50,7 +50,7 @@ writeChecks m d room =
     ∷ 38 when fieldWide m (length d)
     ∷ 33 when leb second (m .stamp .0)
     ∷ 34 when leb second (m .delay .0)
-    ∷ faultOf d when not (eqb (faultOf d) 0)
+    ∷ fault house d
     ∷ 16 when ltb room 188
     ∷ []
 

@@ -137,7 +137,7 @@ fn read_refusal(packet: &[u8]) -> u32
     if stuffing_wrong(&packet[after..]) {
         return refusals::STUFFING_NOT_FF;
     }
-    addressing::check(&packet[21..end])
+    addressing::check(&packet[21..end]).refusal
 }
 
 // Reads a MIP.

@@ -43,8 +43,8 @@ fn write_refusal(m: Mip, addressing: &[u8], room: usize) -> u32
         return refusals::MAXIMUM_DELAY_OVER;
     }
     let fault = addressing::check(addressing);
-    if fault != 0 {
-        return fault;
+    if fault.refusal != 0 {
+        return fault.refusal;
     }
     if room < 188 {
         return refusals::OUTPUT_SHORT;

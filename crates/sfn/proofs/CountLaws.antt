@@ -17,8 +17,8 @@ use Rattle.addressing.specs.Payload.{payloadChecks, payloadOf}
 use Rattle.addressing.specs.Walk.{functionsFor, stepIn, walkChecks, refused, walkOf}
 use Rattle.addressing.specs.declared.Walked.{Walked}
 use Rattle.addressing.proofs.PayloadLaws as payload
-use Rattle.addressing.proofs.HeldLaws.{Rising, rising-upto}
-use Rattle.addressing.proofs.WalkLaws.{for-rising, walk-long, walk-refused}
+use Rattle.addressing.proofs.DataLaws.{Rising, rising-upto, for-rising}
+use Rattle.addressing.proofs.WalkLaws.{walk-long, walk-refused}
 use Rattle.mip.specs.Read.{readChecks, readOf}
 use Rattle.mip.proofs.FieldLaws.{readable}
 use Rattle.mip.proofs.Operations.{read-accepted, read-refused}
@@ -36,11 +36,11 @@ use Rattle.sfn.specs.Reader.{GatherFits}
 
 -- ---- addressing data
 
-pub payload-few : (p : List ℕ) → Bytes p → payloadOf p .bytes ≤ 255
-payload-few p b =
-    cases (eqb (first (payloadChecks p)) 0)
-    (λ t. rw (payload.read-accepted p (eqb-true _ _ t), length-drop 2 p) (omega (arith, payload.readable p (eqb-true _ _ t) .size, b 1)))
-    (λ t. rw (payload.read-refused p (eqb-false _ _ t) .0) (omega arith))
+pub payload-few : (own : ℕ) (p : List ℕ) → Bytes p → payloadOf own p .bytes ≤ 255
+payload-few own p b =
+    cases (eqb (first (payloadChecks own p)) 0)
+    (λ t. rw (payload.read-accepted own p (eqb-true _ _ t), length-drop 2 p) (omega (arith, payload.readable own p (eqb-true _ _ t) .size, b 1)))
+    (λ t. rw (payload.read-refused own p (eqb-false _ _ t) .0) (omega arith))
 
 pub mip-few : (p : List ℕ) → readOf p .addressing ≤ 163
 mip-few p =
@@ -66,14 +66,14 @@ step-fits from to place (f ∷ fs) h r =
     (λ t. rw t (record { next = omega arith; step = (omega arith, omega arith) }))
     (λ t. rw t (step-fits (endOf f) to place fs h (r .1)))
 
-pub walk-fits : (d : List ℕ) (tx place : ℕ) → WalkFits (walkOf d tx place)
-walk-fits d tx place =
+pub walk-fits : (own : ℕ) (d : List ℕ) (tx place : ℕ) → WalkFits (walkOf own d tx place)
+walk-fits own d tx place =
     cases (ltb 255 (length d))
-    (λ t. rw (walk-long d tx place (ltb-true _ _ t)) (nowhere 38))
-    (λ t. cases (eqb (first (walkChecks d tx place)) 0)
-    (λ z. unfold walkOf in rw (answer-accepted (walkChecks d tx place) refused (stepIn (functionsFor tx d) place (length d)) (eqb-true _ _ z))
-    (step-fits 0 (length d) place (functionsFor tx d) (ltb-false _ _ t) (for-rising tx d)))
-    (λ z. rw (walk-refused d tx place (eqb-false _ _ z)) (nowhere (first (walkChecks d tx place)))))
+    (λ t. rw (walk-long own d tx place (ltb-true _ _ t)) (nowhere 38))
+    (λ t. cases (eqb (first (walkChecks own d tx place)) 0)
+    (λ z. unfold walkOf in rw (answer-accepted (walkChecks own d tx place) refused (stepIn (functionsFor own tx d) place (length d)) (eqb-true _ _ z))
+    (step-fits 0 (length d) place (functionsFor own tx d) (ltb-false _ _ t) (for-rising own tx d)))
+    (λ z. rw (walk-refused own d tx place (eqb-false _ _ z)) (nowhere (first (walkChecks own d tx place)))))
 
 -- ---- the reader
 

@@ -8,6 +8,7 @@ use refusals::Written;
 ghost use mathlib.Core.Path.{_≡_};
 ghost use Prim.Native.Nat.{_^_, _<_};
 ghost use denote.Ref.{now};
+ghost use Rattle.addressing.specs.Data.{house};
 ghost use Rattle.addressing.specs.Payload.{payloadOf, writeOf as addressingWritten};
 ghost use Rattle.addressing.specs.Walk.{walkOf};
 ghost use Rattle.mip.specs.Read.{readOf as mipRead};
@@ -55,7 +56,7 @@ pub struct SfnTime {
 
 #[no_mangle]
 pub extern "C" fn sfn_addressing_read(payload: &[u8]) -> SfnAddressing
-    ensures { λ r. ⌜ r ≡ addressingOf (payloadOf (now (payload .entry))) ⌝ }
+    ensures { λ r. ⌜ r ≡ addressingOf (payloadOf house (now (payload .entry))) ⌝ }
 {
     let p = addressing::payload_read(payload);
     let bytes = count_32(p.bytes);
@@ -67,7 +68,7 @@ pub extern "C" fn sfn_addressing_read(payload: &[u8]) -> SfnAddressing
 
 #[no_mangle]
 pub extern "C" fn sfn_addressing_write(addressed: &[u8], out: &mut [u8]) -> Written
-    ensures { λ r. ⌜ record { answer = r; out = now (out .exit) } ≡ addressingWritten (now (addressed .entry)) (now (out .entry)) ⌝ }
+    ensures { λ r. ⌜ record { answer = r; out = now (out .exit) } ≡ addressingWritten house (now (addressed .entry)) (now (out .entry)) ⌝ }
 {
     addressing::payload_write(addressed, out)
 }
@@ -104,7 +105,7 @@ fn step_flat(refusal: u32, next: usize, step: Step) -> SfnWalked
 
 #[no_mangle]
 pub extern "C" fn sfn_walk(addressed: &[u8], transmitter: u16, place: u32) -> SfnWalked
-    ensures { λ r. ⌜ r ≡ walkedOf (walkOf (now (addressed .entry)) transmitter place) ⌝ }
+    ensures { λ r. ⌜ r ≡ walkedOf (walkOf house (now (addressed .entry)) transmitter place) ⌝ }
 {
     let w = addressing::walk_from(addressed, transmitter, place as usize);
     let step = w.step;

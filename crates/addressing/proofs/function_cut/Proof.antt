@@ -16,16 +16,16 @@ returns-2 : tie.Need-returns-2
 returns-2 c =
     sym (rw (le-ltb _ _ (c .before .before .if1 .left), lt-ltb _ _ (rw (c .before .byte-at .ensures) at (c .if2 .taken))))
 
-body-at-requires : tie.Need-body-at-requires
-body-at-requires c κs = search needs
+body-length-requires : tie.Need-body-length-requires
+body-length-requires c κs = search needs
 
 add-result : tie.Need-add-result
 add-result c = search needs
 
 returns-3 : tie.Need-returns-3
 returns-3 c =
-    rw (le-ltb _ _ (c .before .before .before .if1 .left), le-ltb _ _ (rw (c .before .before .byte-at .ensures) at (c .before .if2 .left)), c .body-at .ensures)
+    rw (le-ltb _ _ (c .before .before .before .if1 .left), le-ltb _ _ (rw (c .before .before .byte-at .ensures) at (c .before .if2 .left)), c .body-length .ensures)
 
 pub function-cut-spec : {M : Type 1} → statement M
 function-cut-spec =
-    tie.close (tie.spec returns byte-at-requires returns-2 body-at-requires add-result returns-3)
+    tie.close (tie.spec returns byte-at-requires returns-2 body-length-requires add-result returns-3)

@@ -8,17 +8,17 @@ use mathlib.Core.List.{List}
 use Rattle.functions.specs.Tags.{bodyWrong, bandwidthReserved}
 use Rattle.refusals.specs.Checks.{Check}
 use Rattle.refusals.proofs.CheckLaws.{Clear, first-at, first-none}
-use Rattle.addressing.specs.Data.{tagOf, bodyAt, functionChecks}
+use Rattle.addressing.specs.Data.{tagOf, bodyLength, functionChecks}
 use Rattle.addressing.proofs.function_fault.Statement.{statement}
 use Rattle.addressing.proofs.function_fault.Tie as tie
 
 abbrev checks : tie.Start → List Check
-checks c = functionChecks (now (c .args .l))
+checks c = functionChecks (c .args .own) (now (c .args .l))
 
 -- ---- what each call said, of the bytes
 
-length-judged : (c : tie.After-body-wrong) → c .body-wrong .result ≡ bodyWrong (tagOf (now (c .before .before .before .before .before .before .args .l))) (bodyAt (now (c .before .before .before .before .before .before .args .l)))
-length-judged c = c .body-wrong .ensures ∙ ap₂ bodyWrong (c .before .before .byte-at .ensures) (c .before .body-at .ensures)
+length-judged : (c : tie.After-body-wrong) → c .body-wrong .result ≡ bodyWrong (tagOf (now (c .before .before .before .before .before .before .args .l))) (bodyLength (c .before .before .before .before .before .before .args .own) (now (c .before .before .before .before .before .before .args .l)))
+length-judged c = c .body-wrong .ensures ∙ ap₂ bodyWrong (c .before .before .byte-at .ensures) (c .before .body-length .ensures)
 
 value-judged : (c : tie.After-bandwidth-reserved) → c .bandwidth-reserved .result ≡ bandwidthReserved (tagOf (now (c .before .before .before .before .before .before .before .before .before .args .l))) (getD (now (c .before .before .before .before .before .before .before .before .before .args .l)) 2 0)
 value-judged c =
@@ -45,8 +45,8 @@ returns c =
 byte-at-requires : tie.Need-byte-at-requires
 byte-at-requires c κs = search needs
 
-body-at-requires : tie.Need-body-at-requires
-body-at-requires c κs = search needs
+body-length-requires : tie.Need-body-length-requires
+body-length-requires c κs = search needs
 
 body-wrong-requires : tie.Need-body-wrong-requires
 body-wrong-requires c κs = search needs
@@ -79,7 +79,7 @@ function-fault-spec =
     function-cut-requires
     returns
     byte-at-requires
-    body-at-requires
+    body-length-requires
     body-wrong-requires
     returns-2
     byte-at-requires-2

@@ -6,6 +6,7 @@ use lib.ListN.{length}
 use mathlib.Core.Path.{sym, _∙_}
 use Prim.Native.Nat.{_≤_}
 use native.Mathlib.Omega.{arith}
+use Rattle.addressing.specs.Data.{house}
 use Rattle.addressing.proofs.DataLaws.{from-on}
 use Rattle.addressing.proofs.PayloadLaws.{readable, read-refused, data-accepted}
 use Rattle.addressing.proofs.payload_data.Statement.{statement}
@@ -13,7 +14,7 @@ use Rattle.addressing.proofs.payload_data.Tie as tie
 
 long : (c : tie.Else1) → 2 ≤ length (now (c .before .before .before .args .payload))
 long c =
-    let r = readable (now (c .before .before .before .args .payload)) (sym (c .before .payload-refusal .ensures) ∙ c .if1 .left) in
+    let r = readable house (now (c .before .before .before .args .payload)) (sym (c .before .payload-refusal .ensures) ∙ c .if1 .left) in
     omega (arith, r .size)
 
 payload-refusal-requires : tie.Need-payload-refusal-requires
@@ -24,7 +25,7 @@ slice-aggregate-result c = search needs
 
 returns : tie.Need-returns
 returns c =
-    sym (read-refused (now (c .before .before .before .before .args .payload)) (λ z. c .before .if1 .taken (c .before .before .payload-refusal .ensures ∙ z)) .1)
+    sym (read-refused house (now (c .before .before .before .before .args .payload)) (λ z. c .before .if1 .taken (c .before .before .payload-refusal .ensures ∙ z)) .1)
 
 sub-result : tie.Need-sub-result
 sub-result c = omega (arith, long c)
@@ -38,7 +39,7 @@ part-result-end c = search needs
 returns-2 : tie.Need-returns-2
 returns-2 c =
     let p = now (c .before .before .before .before .args .payload) in
-    from-on 2 p ∙ sym (data-accepted p (sym (c .before .before .payload-refusal .ensures) ∙ c .before .if1 .left))
+    from-on 2 p ∙ sym (data-accepted house p (sym (c .before .before .payload-refusal .ensures) ∙ c .before .if1 .left))
 
 pub payload-data-spec : {M : Type 1} → statement M
 payload-data-spec =

@@ -14,13 +14,14 @@ use Rattle.refusals.specs.Checks.{Check}
 use Rattle.refusals.proofs.CheckLaws.{Clear, first-at}
 use Rattle.refusals.proofs.FoundLaws.{found-last}
 use Rattle.addressing.proofs.DataLaws.{neither, from-on}
-use Rattle.addressing.specs.Data.{faultOf}
+use Rattle.addressing.specs.Data.{house, faultOf}
 use Rattle.addressing.specs.Payload.{payloadChecks}
+use Rattle.addressing.specs.declared.Fault.{Fault}
 use Rattle.addressing.proofs.payload_refusal.Statement.{statement}
 use Rattle.addressing.proofs.payload_refusal.Tie as tie
 
 abbrev checks : tie.Start → List Check
-checks c = payloadChecks (now (c .args .payload))
+checks c = payloadChecks house (now (c .args .payload))
 
 past1 : (c : tie.Else1) → Clear 1 (checks (c .before .before .before))
 unfolding payloadChecks
@@ -68,7 +69,8 @@ unfolding payloadChecks
 returns-3 c =
     let p = now (c .before .before .before .before .before .before .before .args .payload) in
     let r = past2 (c .before .before) in
-    c .check .ensures ∙ ap faultOf (from-on 2 p) ∙ sym (rw (r .0 .1, r .1) (found-last (faultOf (drop 2 p))))
+    ap (λ (f : Fault). f .refusal) (c .check .ensures ∙ ap (faultOf house) (from-on 2 p))
+    ∙ sym (rw (r .0 .1, r .1) (found-last (faultOf house (drop 2 p) .refusal)))
 
 pub payload-refusal-spec : {M : Type 1} → statement M
 payload-refusal-spec =

@@ -12,14 +12,15 @@ use Rattle.fields.specs.Numbers.{bytes}
 use Rattle.fields.specs.Parts.{overlay, storedAt, copiedTo}
 use Rattle.fields.proofs.PartLaws.{part-whole, length-overlay, overlay-next, stored-at, copied-to}
 use Rattle.refusals.proofs.AnswerLaws.{written-number}
+use Rattle.addressing.specs.Data.{house}
 use Rattle.addressing.proofs.PayloadLaws.{Writable, writable, write-accepted}
 use Rattle.addressing.specs.Payload.{payloadBytes, writeOf}
 use Rattle.addressing.proofs.payload_write.Statement.{statement}
 use Rattle.addressing.proofs.payload_write.Tie as tie
 
 -- past the test the data is written
-well : (c : tie.Else1) → Writable (now (c .before .before .before .before .args .«data»)) (now (c .before .before .before .before .args .out))
-well c = writable _ _ (sym (c .before .write-refusal .ensures) ∙ c .if1 .left)
+well : (c : tie.Else1) → Writable house (now (c .before .before .before .before .args .«data»)) (now (c .before .before .before .before .args .out))
+well c = writable house _ _ (sym (c .before .write-refusal .ensures) ∙ c .if1 .left)
 
 -- the length under a byte of zero
 head : (n : ℕ) → n ≤ 255 → bytes 2 n ≡ 0 ∷ n ∷ []
@@ -74,7 +75,7 @@ returns-2 c =
     let a = c .before .before .before .before .before .before .before .before .before .before .before .before .args in
     let r = c .before .before .before .before .before .before .before .before in
     let w = well r in
-    sym (write-accepted (now (a .«data»)) (now (a .out)) (sym (r .before .write-refusal .ensures) ∙ r .if1 .left)
+    sym (write-accepted house (now (a .«data»)) (now (a .out)) (sym (r .before .write-refusal .ensures) ∙ r .if1 .left)
     ∙ ap (λ (l : List ℕ). record { answer = record { refusal = 0; bytes = 2 + length (now (a .«data»)) }; out = l })
     (sym (laid (now (a .«data»)) (now (a .out)) (w .short) (w .room) _ _ (c .before .before .before .before .before .before .store-at .ensures) (c .before .before .copy .ensures))))
 

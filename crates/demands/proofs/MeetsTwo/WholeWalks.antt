@@ -11,13 +11,13 @@ use Rattle.fields.specs.Parts.{part}
 use Rattle.refusals.specs.Checks.{first}
 use Rattle.refusals.proofs.AnswerLaws.{answer-accepted}
 use Rattle.refusals.proofs.FoundLaws.{stands, found, none-found, not-found}
-use Rattle.addressing.specs.Data.{Placed, endOf, faultOf}
+use Rattle.addressing.specs.Data.{house, Placed, endOf, faultOf}
 use Rattle.addressing.specs.Groups.{tagsAndBodies}
 use Rattle.addressing.specs.Walk as addressing
 use Rattle.addressing.specs.Walk.{functionsFor, given, ended, stepIn, walkChecks, refused, walkOf, unlessEnd}
 use Rattle.addressing.specs.declared.Walked.{Walked}
-use Rattle.addressing.proofs.HeldLaws.{Rising}
-use Rattle.addressing.proofs.WalkLaws.{for-rising, walk-all}
+use Rattle.addressing.proofs.DataLaws.{Rising, for-rising}
+use Rattle.addressing.proofs.WalkLaws.{walk-all}
 use Rattle.addressing.proofs.GroupLaws.{same-groups}
 use Rattle.demands.specs.Library.{ours}
 use Rattle.demands.specs.Demand2.Address.{answersBy, wholeWalk, toldBy, Walks}
@@ -25,12 +25,12 @@ use Rattle.demands.specs.Demand2.Address.{answersBy, wholeWalk, toldBy, 
 -- where no check holds of place 0, none holds of the data
 record Good (d : List ℕ) : Type 0 where
   pub short : length d ≤ 255
-  pub right : faultOf d ≡ 0
+  pub right : faultOf house d .refusal ≡ 0
 
-good : (d : List ℕ) (tx : ℕ) → first (walkChecks d tx 0) ≡ 0 → Good d
+good : (d : List ℕ) (tx : ℕ) → first (walkChecks house d tx 0) ≡ 0 → Good d
 unfolding walkChecks
 good d tx h =
-    let n = none-found (walkChecks d tx 0) (stands 37, (found (faultOf d), (stands 37, tt))) h in
+    let n = none-found (walkChecks house d tx 0) (stands 37, (found (faultOf house d .refusal), (stands 37, tt))) h in
     record { short = ltb-false _ _ (n .0); right = not-found _ (n .1 .0) }
 
 -- each function takes two bytes at least
@@ -38,30 +38,30 @@ few : (from to : ℕ) (fs : List Placed) → Rising from to fs → from + length
 few from to [] r = omega (arith, r)
 few from to (f ∷ fs) r = omega (arith, r .0, few (endOf f) to fs (r .1))
 
-answers-same : (k : ℕ) (d : List ℕ) (tx place : ℕ) → answersBy ours k d tx place ≡ addressing.answersBy k d tx place
+answers-same : (k : ℕ) (d : List ℕ) (tx place : ℕ) → answersBy ours k d tx place ≡ addressing.answersBy k house d tx place
 unfolding answersBy addressing.answersBy
 answers-same zero d tx place = refl
 answers-same (suc k) d tx place =
-    let w = walkOf d tx place in
+    let w = walkOf house d tx place in
     ap (λ (ws : List Walked). w ∷ unlessEnd (w .step) ws) (answers-same k d tx (w .next))
 
-whole : (d : List ℕ) (tx : ℕ) → first (walkChecks d tx 0) ≡ 0 → wholeWalk ours d tx ≡ map given (functionsFor tx d) ++ (ended (length d) ∷ [])
+whole : (d : List ℕ) (tx : ℕ) → first (walkChecks house d tx 0) ≡ 0 → wholeWalk ours d tx ≡ map given (functionsFor house tx d) ++ (ended (length d) ∷ [])
 whole d tx h =
     let g = good d tx h in
     answers-same (length d + 1) d tx 0
-    ∙ walk-all d tx (g .short) (g .right) (length d + 1) (omega (arith, few 0 (length d) (functionsFor tx d) (for-rising tx d)))
+    ∙ walk-all house d tx (g .short) (g .right) (length d + 1) (omega (arith, few 0 (length d) (functionsFor house tx d) (for-rising house tx d)))
 
 told : (d : List ℕ) (fs : List Placed) (end : ℕ) → toldBy d (map given fs ++ (ended end ∷ [])) ≡ tagsAndBodies d fs
 unfolding toldBy tagsAndBodies
 told d [] end = refl
 told d (f ∷ fs) end = ap (λ (l : List (ℕ × List ℕ)). (f .tag, part (f .start) (f .body) d) ∷ l) (told d fs end)
 
-told-whole : (d : List ℕ) (tx : ℕ) → first (walkChecks d tx 0) ≡ 0 → toldBy d (wholeWalk ours d tx) ≡ tagsAndBodies d (functionsFor tx d)
-told-whole d tx h = ap (toldBy d) (whole d tx h) ∙ told d (functionsFor tx d) (length d)
+told-whole : (d : List ℕ) (tx : ℕ) → first (walkChecks house d tx 0) ≡ 0 → toldBy d (wholeWalk ours d tx) ≡ tagsAndBodies d (functionsFor house tx d)
+told-whole d tx h = ap (toldBy d) (whole d tx h) ∙ told d (functionsFor house tx d) (length d)
 
-step : (d : List ℕ) (tx place : ℕ) → first (walkChecks d tx place) ≡ 0 → walkOf d tx place ≡ stepIn (functionsFor tx d) place (length d)
+step : (d : List ℕ) (tx place : ℕ) → first (walkChecks house d tx place) ≡ 0 → walkOf house d tx place ≡ stepIn (functionsFor house tx d) place (length d)
 unfolding walkOf
-step d tx place h = answer-accepted (walkChecks d tx place) refused _ h
+step d tx place h = answer-accepted (walkChecks house d tx place) refused _ h
 
 pub walks-two : Walks ours
 walks-two =
@@ -69,5 +69,5 @@ walks-two =
       step = step;
       whole = whole;
       same = λ tx d e h i s.
-          told-whole d tx h ∙ same-groups tx d e (good d tx h .right) (good e tx i .right) s ∙ sym (told-whole e tx i);
+          told-whole d tx h ∙ same-groups house tx d e s ∙ sym (told-whole e tx i);
     }

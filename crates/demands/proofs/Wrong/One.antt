@@ -18,7 +18,7 @@ use Rattle.functions.specs.Function.{bodyOf}
 use Rattle.functions.specs.Write as functionWriting
 use Rattle.functions.specs.declared.Function.{Function}
 use Rattle.functions.specs.declared.Function.the-variants.{Power}
-use Rattle.addressing.specs.Data.{functionAt, functionChecks, loopBy, loopIn, groupsBy, groupsIn, heldIn, faultOf}
+use Rattle.addressing.specs.Data.{house, entriesBy, entriesIn, groupChecks, functionChecks, functionAt, faultIn, faultOf}
 use Rattle.addressing.specs.Payload as addressing
 use Rattle.addressing.specs.Walk.{reached, given, walkChecks, refused, walkOf}
 use Rattle.addressing.specs.declared.PayloadRead.{PayloadRead}
@@ -39,25 +39,25 @@ quarry = 0 ∷ 1 ∷ 2 ∷ 3 ∷ 3 ∷ 0 ∷ 1 ∷ 0 ∷ []
 
 -- a walk that gives the function in place of refusal 27
 abbrev pub pastLoop : List ℕ → ℕ → ℕ → Walked
-pastLoop d tx place = cond (eqb (walkOf d tx place .refusal) 27) (given (functionAt tx 3 (drop 3 d))) (walkOf d tx place)
+pastLoop d tx place = cond (eqb (walkOf house d tx place .refusal) 27) (given (functionAt house 3 (drop 3 d))) (walkOf house d tx place)
 
 pub walk-past-loop : Demand1 (walked pastLoop) → ⊥
-unfolding walkOf walkChecks answer faultOf heldIn groupsIn groupsBy loopIn loopBy functionChecks bodyWrong valueReserved bandwidthReserved unpack
+unfolding walkOf walkChecks answer faultOf faultIn entriesIn entriesBy groupChecks functionChecks bodyWrong valueReserved bandwidthReserved unpack
 walk-past-loop d = let e : _≡_ {A = ℕ} 0 27 = d .walk quarry 1 0 .numbered in omega arith
 
 -- a reading of the payload that takes such data
 abbrev pub takesPastLoop : List ℕ → PayloadRead
-takesPastLoop p = cond (eqb (addressing.payloadOf p .refusal) 27) (record { refusal = 0; bytes = length (drop 2 p) }) (addressing.payloadOf p)
+takesPastLoop p = cond (eqb (addressing.payloadOf house p .refusal) 27) (record { refusal = 0; bytes = length (drop 2 p) }) (addressing.payloadOf house p)
 
 pub reading-past-loop : Demand1 (addressed takesPastLoop) → ⊥
-unfolding addressing.payloadOf addressing.payloadChecks answer faultOf heldIn groupsIn groupsBy loopIn loopBy functionChecks bodyWrong valueReserved bandwidthReserved unpack
+unfolding addressing.payloadOf addressing.payloadChecks answer faultOf faultIn entriesIn entriesBy groupChecks functionChecks bodyWrong valueReserved bandwidthReserved unpack
 reading-past-loop d = let e : _≡_ {A = ℕ} 0 27 = d .addressingRead (0 ∷ 8 ∷ quarry) .numbered in omega arith
 
 -- ---- a walk that refuses everything
 
 -- no groups at all are good
 pub walk-refuses-all : Demand1 (walked (λ d tx place. refused 27)) → ⊥
-unfolding walkChecks faultOf heldIn groupsIn groupsBy reached
+unfolding walkChecks faultOf faultIn entriesIn entriesBy reached
 walk-refuses-all d = let e : _≡_ {A = ℕ} 27 0 = d .walk [] 1 0 .numbered in omega arith
 
 -- ---- a reader that refuses rightly, but not with what it was lent

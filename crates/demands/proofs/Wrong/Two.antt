@@ -32,7 +32,7 @@ use Rattle.functions.specs.Write as functionWriting
 use Rattle.functions.specs.declared.Function.{Function}
 use Rattle.functions.specs.declared.Function.the-variants.{TimeOffset, FrequencyOffset}
 use Rattle.functions.specs.declared.FunctionRead.{FunctionRead}
-use Rattle.addressing.specs.Data.{groupsBy, groupsIn, heldIn, faultOf}
+use Rattle.addressing.specs.Data.{entriesBy, entriesIn, functionsOf, faultIn, faultOf}
 use Rattle.addressing.specs.Payload as addressing
 use Rattle.addressing.specs.Walk as walking
 use Rattle.addressing.specs.declared.PayloadRead.{PayloadRead}
@@ -108,7 +108,7 @@ pub record Rejected : Type 0 where
   pub carriage : Carriage refusing → ⊥
 
 pub each-rejects : Rejected
-unfolding stampReading.readChecks stampReading.stampOf stamp.secondReached stamp.isNull addressing.payloadChecks faultOf heldIn groupsIn groupsBy walking.walkChecks walking.reached walking.stepIn walking.functionsFor walking.heardOf timing.emissionChecks number pack unpack pidOutside
+unfolding stampReading.readChecks stampReading.stampOf stamp.secondReached stamp.isNull addressing.payloadChecks faultOf faultIn entriesIn entriesBy functionsOf walking.walkChecks walking.reached walking.stepIn walking.functionsFor walking.heardOf timing.emissionChecks number pack unpack pidOutside
 each-rejects =
     record {
       packets = λ d. some (ap (λ (r : Packet). r .refusal) (d .reads five good-five));

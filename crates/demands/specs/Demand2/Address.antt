@@ -6,6 +6,7 @@ use lib.ListN.{length}
 use Rattle.fields.specs.Numbers.{Bytes}
 use Rattle.fields.specs.Parts.{part}
 use Rattle.refusals.specs.Checks.{first}
+use Rattle.addressing.specs.Data.{house}
 use Rattle.addressing.specs.Payload.{payloadChecks, dataOf, writeChecks, payloadBytes}
 use Rattle.addressing.specs.Groups.{heardGroups}
 use Rattle.addressing.specs.Walk.{functionsFor, given, ended, stepIn, walkChecks, unlessEnd}
@@ -19,9 +20,9 @@ use Rattle.demands.specs.Demand2.Writing.{laid, writtenBy}
 
 pub record Addressing (lib : Library) : Type 0 where
   -- where no check of 01's list holds: the data behind the length byte, and the payload of data
-  pub reads : (p : List ℕ) → first (payloadChecks p) ≡ 0 → lib .addressingRead p ≡ record { refusal = 0; bytes = length (dataOf p) }
-  pub data-of : (p : List ℕ) → first (payloadChecks p) ≡ 0 → lib .addressingData p ≡ dataOf p
-  pub writes : (d out : List ℕ) → first (writeChecks d (length out)) ≡ 0 → lib .addressingWrite d out ≡ laid (payloadBytes d) out
+  pub reads : (p : List ℕ) → first (payloadChecks house p) ≡ 0 → lib .addressingRead p ≡ record { refusal = 0; bytes = length (dataOf p) }
+  pub data-of : (p : List ℕ) → first (payloadChecks house p) ≡ 0 → lib .addressingData p ≡ dataOf p
+  pub writes : (d out : List ℕ) → first (writeChecks house d (length out)) ≡ 0 → lib .addressingWrite d out ≡ laid (payloadBytes d) out
   -- what was written is read as the same data
   pub back : (d out : List ℕ) → lib .addressingWrite d out .answer .refusal ≡ 0
       → (lib .addressingRead (writtenBy (lib .addressingWrite d out)) ≡ record { refusal = 0; bytes = length d })
@@ -56,9 +57,9 @@ toldBy d (w ∷ ws) = tagAndBody d (w .step) ++ toldBy d ws
 
 pub record Walks (lib : Library) : Type 0 where
   -- where no check of 01's list holds: the first function for the transmitter from the place on, or the end
-  pub step : (d : List ℕ) (tx place : ℕ) → first (walkChecks d tx place) ≡ 0 → lib .walk d tx place ≡ stepIn (functionsFor tx d) place (length d)
+  pub step : (d : List ℕ) (tx place : ℕ) → first (walkChecks house d tx place) ≡ 0 → lib .walk d tx place ≡ stepIn (functionsFor house tx d) place (length d)
   -- a whole walk gives the functions of that transmitter and of broadcast, in order and once each, and then the end
-  pub whole : (d : List ℕ) (tx : ℕ) → first (walkChecks d tx 0) ≡ 0 → wholeWalk lib d tx ≡ map given (functionsFor tx d) ++ (ended (length d) ∷ [])
+  pub whole : (d : List ℕ) (tx : ℕ) → first (walkChecks house d tx 0) ≡ 0 → wholeWalk lib d tx ≡ map given (functionsFor house tx d) ++ (ended (length d) ∷ [])
   -- two well-formed data that agree on those groups give the transmitter the same tags and bodies
-  pub same : (tx : ℕ) (d e : List ℕ) → first (walkChecks d tx 0) ≡ 0 → first (walkChecks e tx 0) ≡ 0 → heardGroups tx d ≡ heardGroups tx e
+  pub same : (tx : ℕ) (d e : List ℕ) → first (walkChecks house d tx 0) ≡ 0 → first (walkChecks house e tx 0) ≡ 0 → heardGroups tx d ≡ heardGroups tx e
       → toldBy d (wholeWalk lib d tx) ≡ toldBy e (wholeWalk lib e tx)

@@ -38,6 +38,7 @@ use denote.Triple.Table.{entered, cited}
 use denote.Triple.Walked.{says, Stays, stay-none, stay-none-slice, walkOf, goes-none, goes-none-slice, Walks, ends-at, walked, walk-meets}
 use denote.Triple.Clauses.{ensured, lasts}
 use denote.Exit.{yes}
+use Rattle.addressing.specs.Data.{house}
 use Rattle.addressing.specs.Steps.{freshWalk, movedTo, foundBy, steppedOf}
 use Rattle.addressing.specs.Walk as spec
 use Rattle.addressing.specs.declared.walks.Stepped.{Stepped}
@@ -124,10 +125,10 @@ module _ {M : Type 1} (𝓤 : URA M) (H : Heap 𝓤) (A : Atoms 𝓤) (W : Given
   abbrev answer : Stepped → Val
   answer t = LL.val Found.the-type Found′.the-laws (t .answer)
 
-  found : (w : Walk) (t : Stepped) → w ≡ freshWalk s tx → t ≡ steppedOf (movedTo w place) → t .answer ≡ spec.walkOf (now s) tx place
+  found : (w : Walk) (t : Stepped) → w ≡ freshWalk s tx → t ≡ steppedOf (movedTo w place) → t .answer ≡ spec.walkOf house (now s) tx place
   found w t e f = ap (λ (x : Stepped). x .answer) f ∙ ap (λ (x : Walk). foundBy (movedTo x place)) e
 
-  exits : (t : Stepped) (u : Val) → Is Found.the-row (t .answer) (answer t ∷ []) → t .answer ≡ spec.walkOf (now s) tx place
+  exits : (t : Stepped) (u : Val) → Is Found.the-row (t .answer) (answer t ∷ []) → t .answer ≡ spec.walkOf house (now s) tx place
       → ent 𝓤 (⋆ 𝓤 H A (‵ (S.the-row α .own t (u ∷ [])) ∷ (‵ (flft κ q) ⊛ ‵ ftrue) ∷ ‵ (Slice κ s) ∷ [])) (Post (answer t))
   exits t u is e =
       qed W (‵ (S.the-row α .own t (u ∷ [])) ∷ (‵ (flft κ q) ⊛ ‵ ftrue) ∷ ‵ (Slice κ s) ∷ []) ∵

@@ -11,7 +11,8 @@ use mathlib.Core.Bool.{not}
 use mathlib.Core.List.{List}
 use Prim.Native.Nat.{ℕ, _≤_}
 use native.Mathlib.Omega.{arith}
-use Rattle.addressing.specs.Data.{faultOf}
+use Rattle.addressing.specs.Data.{house, faultOf}
+use Rattle.addressing.specs.declared.Fault.{Fault}
 use Rattle.crc.specs.Crc.{crcHolds}
 use Rattle.fields.proofs.Cases.{cases}
 use Rattle.refusals.specs.Checks.{Check}
@@ -97,10 +98,10 @@ stuffing-judged c =
     let f = fields8 (c .before .before) in
     c .stuffing-wrong .ensures ∙ ap notAllOnes (stuffing-part (packet f) (length-read f) (length-is f))
 
-data-judged : (c : tie.After-check) → c .check .result ≡ faultOf (addressingOf (packet (fields8 (to8 (c .before .before)))))
+data-judged : (c : tie.After-check) → c .check .result .refusal ≡ faultOf house (addressingOf (packet (fields8 (to8 (c .before .before))))) .refusal
 data-judged c =
     let f = fields8 (to8 (c .before .before)) in
-    c .check .ensures ∙ ap faultOf (addressing-part (packet f) (length-read f) (length-is f))
+    ap (λ (x : Fault). x .refusal) (c .check .ensures ∙ ap (faultOf house) (addressing-part (packet f) (length-read f) (length-is f)))
 
 -- ---- none of the first checks holds
 
@@ -254,7 +255,7 @@ unfolding readChecks
 returns-10 c =
     let e = c .before .before in
     let l = checks (fields8 (to8 e)) in
-    cases (eqb (faultOf (addressingOf (packet (fields8 (to8 e))))) 0)
+    cases (eqb (faultOf house (addressingOf (packet (fields8 (to8 e)))) .refusal) 0)
     (λ t. data-judged c ∙ eqb-true _ _ t ∙ first-none l (past9 e, ap not t))
     (λ t. data-judged c ∙ first-at 9 l (past9 e) (ap not t))
 

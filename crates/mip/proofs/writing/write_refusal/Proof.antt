@@ -9,6 +9,8 @@ use mathlib.Core.List.{List}
 use lib.ListN.{length}
 use Rattle.refusals.specs.Checks.{Check}
 use Rattle.refusals.proofs.CheckLaws.{Clear, first-at, first-none}
+use Rattle.addressing.specs.Data.{house, faultOf}
+use Rattle.addressing.specs.declared.Fault.{Fault}
 use Rattle.mip.proofs.FieldLaws.{wide-alike}
 use Rattle.mip.specs.Write.{fieldWide, writeChecks}
 use Rattle.mip.proofs.writing.write_refusal.Statement.{statement}
@@ -26,7 +28,7 @@ abbrev to3 : tie.Else4 → tie.Else3
 to3 c = c .before .before
 
 abbrev to4 : tie.Else5 → tie.Else4
-to4 c = c .before .before
+to4 c = c .before .before .before
 
 abbrev checks : tie.Else1 → List Check
 checks c =
@@ -36,6 +38,10 @@ checks c =
 -- the data is short enough that its length does not matter
 width-judged : (c : tie.After-field-too-wide) → c .field-too-wide .result ≡ fieldWide (c .before .before .before .args .m) (length (now (c .before .before .before .args .addressing)))
 width-judged c = c .field-too-wide .ensures ∙ sym (wide-alike _ _ (c .before .if1 .left))
+
+-- what the check of the data said
+data-judged : (c : tie.After-check) → c .check .result .refusal ≡ faultOf house (now (to1 (to2 (to3 (c .before))) .before .before .args .addressing)) .refusal
+data-judged c = ap (λ (f : Fault). f .refusal) (c .check .ensures)
 
 past1 : (c : tie.Else1) → Clear 1 (checks c)
 unfolding writeChecks
@@ -55,7 +61,7 @@ past4 c = (past3 (to3 c), lt-leb _ _ (c .if4 .left))
 
 past5 : (c : tie.Else5) → Clear 5 (checks (to1 (to2 (to3 (to4 c)))))
 unfolding writeChecks
-past5 c = (past4 (to4 c), ap not (eq-eqb _ _ (sym (c .before .check .ensures) ∙ c .if5 .left)))
+past5 c = (past4 (to4 c), ap not (eq-eqb _ _ (sym (data-judged (c .before .before)) ∙ c .if5 .left)))
 
 past6 : (c : tie.Else6) → Clear 6 (checks (to1 (to2 (to3 (to4 (c .before))))))
 unfolding writeChecks
@@ -94,9 +100,9 @@ check-requires c κs = search needs
 returns-5 : tie.Need-returns-5
 unfolding writeChecks
 returns-5 c =
-    let e = c .before .before in
-    c .before .check .ensures
-    ∙ first-at 4 (checks (to1 (to2 (to3 e)))) (past4 e) (ap not (ne-eqb _ _ (λ z. c .if5 .taken (c .before .check .ensures ∙ z))))
+    let e = c .before .before .before in
+    let n = data-judged (c .before .before) in
+    n ∙ first-at 4 (checks (to1 (to2 (to3 e)))) (past4 e) (ap not (ne-eqb _ _ (λ z. c .if5 .taken (n ∙ z))))
 
 returns-6 : tie.Need-returns-6
 unfolding writeChecks

@@ -4,6 +4,7 @@ use borrow.Author.Needs.{needs}
 use denote.Ref.{now}
 use native.Mathlib.Omega.{arith}
 use mathlib.Core.Path.{_≡_, ap, _∙_}
+use Rattle.addressing.specs.Data.{house}
 use Rattle.addressing.specs.declared.PayloadRead.{PayloadRead}
 use Rattle.sfn.specs.Site.{addressingOf}
 use Rattle.sfn.proofs.CountLaws.{payload-few}
@@ -15,7 +16,7 @@ payload-read-requires c κs = search needs
 
 count-32-requires : tie.Need-count-32-requires
 count-32-requires c κs =
-    omega (arith, ap (λ (r : PayloadRead). r .bytes) (c .payload-read .ensures), payload-few (now (c .before .before .args .payload)) (λ i. c .before .shared-slice-known .given i .fits))
+    omega (arith, ap (λ (r : PayloadRead). r .bytes) (c .payload-read .ensures), payload-few house (now (c .before .before .args .payload)) (λ i. c .before .shared-slice-known .given i .fits))
 
 returns : tie.Need-returns
 returns c =

@@ -3,6 +3,7 @@
 use borrow.Author.Needs.{needs}
 use denote.Ref.{now}
 use mathlib.Core.Path.{_≡_, sym, ap, _∙_, subst}
+use Rattle.addressing.specs.Data.{house}
 use Rattle.sfn.specs.Site.{walkedOf}
 use Rattle.sfn.proofs.CountLaws.{WalkFits, walk-fits}
 use Rattle.sfn.proofs.site.sfn_walk.Statement.{statement}
@@ -14,7 +15,7 @@ walk-from-requires c κs = search needs
 step-flat-requires : tie.Need-step-flat-requires
 step-flat-requires c κs =
     let a = c .before .before .args in
-    let w = subst WalkFits (sym (c .walk-from .ensures)) (walk-fits (now (a .addressed)) (a .transmitter) (a .place)) in
+    let w = subst WalkFits (sym (c .walk-from .ensures)) (walk-fits house (now (a .addressed)) (a .transmitter) (a .place)) in
     (w .next, w .step)
 
 returns : tie.Need-returns
