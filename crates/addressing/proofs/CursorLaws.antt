@@ -12,7 +12,7 @@ use borrow.Author.Tests.{ltb-true, ltb-false, leb-true, leb-false, le-ltb, le-le
 use Rattle.fields.specs.Parts.{part}
 use Rattle.fields.proofs.Cases.{cases}
 use Rattle.fields.proofs.PartLaws.{length-part, drop-part}
-use Rattle.refusals.specs.Checks.{_when_, first}
+use Rattle.refusals.specs.Checks.{_when_, found, first}
 use Rattle.refusals.specs.Answers.{answer}
 use Rattle.addressing.proofs.EntryLaws.{entries-none, entries-stop, entries-on}
 use Rattle.addressing.proofs.DataLaws.{group-whole, group-fits, function-whole, function-fits}
@@ -237,7 +237,7 @@ module _ (place end : ℕ) where
       ap (λ (w : Walked). record { fault = on .fault; walked = cond (eqb (on .fault .refusal) 0) w (refused (on .fault .refusal)) }) (answer-on s at tag body (on .functions))
   told-function s false at tag body on = refl
 
-two-checks : (n : ℕ) (b : Bool) (x : Walked) → cond (eqb n 0) (cond b x (refused 38)) (refused n) ≡ answer (n when not (eqb n 0) ∷ 38 when not b ∷ []) refused x
+two-checks : (n : ℕ) (b : Bool) (x : Walked) → cond (eqb n 0) (cond b x (refused 38)) (refused n) ≡ answer (found n ∷ 38 when not b ∷ []) refused x
 unfolding answer
 two-checks n true x = cases (eqb n 0) (λ t. simp t) (λ t. simp t)
 two-checks n false x = cases (eqb n 0) (λ t. simp t) (λ t. simp t)

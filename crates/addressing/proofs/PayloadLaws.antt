@@ -11,7 +11,7 @@ use Rattle.fields.specs.Parts.{overlay}
 use Rattle.refusals.specs.Checks.{first}
 use Rattle.refusals.specs.Answers.{answer}
 use Rattle.refusals.proofs.AnswerLaws.{answer-accepted, answer-refused, answer-shows, written-accepted, written-refused, written-shows}
-use Rattle.refusals.proofs.FoundLaws.{stands, found, none-found, not-found}
+use Rattle.refusals.proofs.CheckLaws.{none-holds, not-found}
 use Rattle.addressing.proofs.DataLaws.{neither}
 use Rattle.addressing.specs.Data.{faultOf}
 use Rattle.addressing.specs.Payload.{dataOf, payloadChecks, payloadOf, dataRead, writeChecks, payloadBytes, writeOf}
@@ -27,7 +27,7 @@ pub record Readable (own : ℕ) (p : List ℕ) : Type 0 where
 pub readable : (own : ℕ) (p : List ℕ) → first (payloadChecks own p) ≡ 0 → Readable own p
 unfolding payloadChecks
 readable own p h =
-    let n = none-found (payloadChecks own p) (stands 22, (stands 19, (found (faultOf own (dataOf p) .refusal), tt))) h in
+    let n = none-holds (payloadChecks own p) tt h in
     record {
       size = eqb-true _ _ (not-false _ (neither (ltb (length p) 2) _ (n .0) .1));
       reserved = eqb-true _ _ (not-false _ (n .1 .0));
@@ -44,7 +44,7 @@ pub record Writable (own : ℕ) (d out : List ℕ) : Type 0 where
 pub writable : (own : ℕ) (d out : List ℕ) → first (writeChecks own d (length out)) ≡ 0 → Writable own d out
 unfolding writeChecks
 writable own d out h =
-    let n = none-found (writeChecks own d (length out)) (stands 37, (found (faultOf own d .refusal), (stands 15, tt))) h in
+    let n = none-holds (writeChecks own d (length out)) tt h in
     record { short = ltb-false _ _ (n .0); good = not-found _ (n .1 .0); room = ltb-false _ _ (n .1 .1 .0) }
 
 -- ---- what the operations show

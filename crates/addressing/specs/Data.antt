@@ -4,11 +4,11 @@
 -- Whatever looks at a function_length takes `own`: how many of the function's own two bytes before its body, tag and length, it
 -- counts. By the house rule both (functions, `house`).
 use Prim.Native.Nat.{ℕ, zero, suc, _+_, _-_, _*_}
-use mathlib.Core.Bool.{Bool, cond, not, _||_}
+use mathlib.Core.Bool.{Bool, cond, _||_}
 use mathlib.Core.List.{List, [], _∷_, _++_}
 use lib.Dec.{eqb, ltb}
 use lib.ListN.{length, getD, take, drop}
-use Rattle.refusals.specs.Checks.{Check, _when_, first}
+use Rattle.refusals.specs.Checks.{Check, _when_, found, first}
 use Rattle.functions.specs.Tags.{bodyWrong, bandwidthReserved}
 pub use Rattle.functions.specs.Tags.{house}
 use Rattle.addressing.specs.declared.Fault.{Fault}
@@ -150,4 +150,4 @@ faultOf own d = faultIn own (groupsOf d) (groupsIn 0 d .fault)
 
 -- the same in a list of checks: a fault's number, where there is one
 abbrev pub fault : ℕ → List ℕ → Check
-fault own d = faultOf own d .refusal when not (eqb (faultOf own d .refusal) 0)
+fault own d = found (faultOf own d .refusal)

@@ -10,7 +10,7 @@ use borrow.Author.Tests.{ltb-false}
 use Rattle.packet.specs.Cut.{batchFault}
 use Rattle.packet.proofs.BatchLaws.{sound}
 use Rattle.refusals.specs.Checks.{first}
-use Rattle.refusals.proofs.FoundLaws.{stands, found, none-found, not-found}
+use Rattle.refusals.proofs.CheckLaws.{none-holds, not-found}
 use Rattle.transport.specs.Tests.{pidOutside}
 use Rattle.carry.specs.Carry.{packetsOf, loads, carryChecks}
 use Rattle.carry.specs.OnBytes.{loadsFrom}
@@ -34,7 +34,7 @@ pub record Carriable (pid firstCount : ℕ) (batch : List ℕ) (room : ℕ) : Ty
 pub carriable : (pid firstCount : ℕ) (batch : List ℕ) (room : ℕ) → first (carryChecks pid firstCount batch room) ≡ 0 → Carriable pid firstCount batch room
 unfolding carryChecks
 carriable pid firstCount batch room h =
-    let n = none-found (carryChecks pid firstCount batch room) (stands 3, (stands 16, (stands 14, (found (batchFault batch), (stands 15, tt))))) h in
+    let n = none-holds (carryChecks pid firstCount batch room) tt h in
     record {
       pid-good = n .0;
       count-good = omega (arith, ltb-false 15 firstCount (n .1 .0));

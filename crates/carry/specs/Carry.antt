@@ -1,11 +1,10 @@
 -- The batch writer: what it refuses, what it answers, and what the output then holds.
 use Prim.Native.Nat.{ℕ, _+_, _*_, _%_}
-use mathlib.Core.Bool.{not}
 use mathlib.Core.List.{List, [], _∷_}
-use lib.Dec.{eqb, ltb}
+use lib.Dec.{ltb}
 use lib.ListN.{length}
 use Rattle.fields.specs.Parts.{overlay}
-use Rattle.refusals.specs.Checks.{Check, _when_}
+use Rattle.refusals.specs.Checks.{Check, _when_, found}
 use Rattle.refusals.specs.Answers.{answer}
 use Rattle.packet.specs.Cut.{cut, batchFault, joined}
 use Rattle.transport.specs.Load.{Load, transportOf}
@@ -31,7 +30,7 @@ carryChecks pid firstCount batch room =
     4 when pidOutside pid
     ∷ 17 when ltb 15 firstCount
     ∷ 15 when ltb 65536 (length batch)
-    ∷ batchFault batch when not (eqb (batchFault batch) 0)
+    ∷ found (batchFault batch)
     ∷ 16 when ltb room (188 * length (loads batch))
     ∷ []
 

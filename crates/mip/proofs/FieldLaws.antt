@@ -19,7 +19,7 @@ use Rattle.fields.proofs.FormatLaws.{not-too-wide, fit-not-wide}
 use Rattle.fields.proofs.ByteFormatLaws.{unpack-parts, pack-parts}
 use Rattle.fields.proofs.PartLaws.{part-cons, part-none, number-at}
 use Rattle.refusals.specs.Checks.{first}
-use Rattle.refusals.proofs.FoundLaws.{stands, found, none-found, not-found}
+use Rattle.refusals.proofs.CheckLaws.{none-holds, not-found}
 use Rattle.transport.specs.Header.{header, field, syncOf, countOf}
 use Rattle.mip.specs.Layout.{fixedFields, parameters, parametersOf, sectionOf, crcEnd, second}
 use Rattle.mip.specs.Read.{fixedOf, differ, parameter, addressingLength, addressingOf, sectionWrong, notAllOnes, readChecks, mipOf, leadOf}
@@ -144,7 +144,7 @@ section-right s a h =
 pub readable : (p : List ℕ) → first (readChecks p) ≡ 0 → Readable p
 unfolding readChecks
 readable p z =
-    let n = none-found (readChecks p) (stands 0, (stands 4, (stands 29, (stands 30, (stands 31, (stands 13, (stands 32, (stands 33, (stands 34, (found (faultOf house (addressingOf p) .refusal), tt)))))))))) z in
+    let n = none-holds (readChecks p) tt z in
     let s = section-right _ _ (n .1 .1 .1 .1 .0) in
     let late = n .1 .1 .1 .1 .1 in
     record {
@@ -242,7 +242,7 @@ pub record Writable (m : Mip) (d out : List ℕ) : Type 0 where
 pub writable : (m : Mip) (d out : List ℕ) → first (writeChecks m d (length out)) ≡ 0 → Writable m d out
 unfolding writeChecks
 writable m d out z =
-    let n = none-found (writeChecks m d (length out)) (stands 35, (stands 37, (stands 32, (stands 33, (found (faultOf house d .refusal), (stands 15, tt)))))) z in
+    let n = none-holds (writeChecks m d (length out)) tt z in
     let f = wide-fit m (length d) (n .1 .0) in
     record {
       short = ltb-false _ _ (n .0);

@@ -1,4 +1,3 @@
 -- The laws of checks and answers, for every crate above this one.
 pub mod CheckLaws
 pub mod AnswerLaws
-pub mod FoundLaws

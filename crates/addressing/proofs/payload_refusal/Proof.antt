@@ -12,7 +12,7 @@ use Prim.Native.Nat.{_≤_}
 use native.Mathlib.Omega.{arith}
 use Rattle.refusals.specs.Checks.{Check}
 use Rattle.refusals.proofs.CheckLaws.{Clear, first-at}
-use Rattle.refusals.proofs.FoundLaws.{found-last}
+use Rattle.refusals.proofs.CheckLaws.{found-last}
 use Rattle.addressing.proofs.DataLaws.{neither, from-on}
 use Rattle.addressing.specs.Data.{house, faultOf}
 use Rattle.addressing.specs.Payload.{payloadChecks}

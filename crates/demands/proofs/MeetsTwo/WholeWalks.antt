@@ -10,7 +10,7 @@ use borrow.Author.Tests.{ltb-false}
 use Rattle.fields.specs.Parts.{part}
 use Rattle.refusals.specs.Checks.{first}
 use Rattle.refusals.proofs.AnswerLaws.{answer-accepted}
-use Rattle.refusals.proofs.FoundLaws.{stands, found, none-found, not-found}
+use Rattle.refusals.proofs.CheckLaws.{none-holds, not-found}
 use Rattle.addressing.specs.Data.{house, Placed, endOf, faultOf}
 use Rattle.addressing.specs.Groups.{tagsAndBodies}
 use Rattle.addressing.specs.Walk as addressing
@@ -30,7 +30,7 @@ record Good (d : List ℕ) : Type 0 where
 good : (d : List ℕ) (tx : ℕ) → first (walkChecks house d tx 0) ≡ 0 → Good d
 unfolding walkChecks
 good d tx h =
-    let n = none-found (walkChecks house d tx 0) (stands 37, (found (faultOf house d .refusal), (stands 37, tt))) h in
+    let n = none-holds (walkChecks house d tx 0) tt h in
     record { short = ltb-false _ _ (n .0); right = not-found _ (n .1 .0) }
 
 -- each function takes two bytes at least
