@@ -61,7 +61,7 @@ module _ (m : Mip) (d : List ℕ) where
   pub length-mip : length d ≤ 163 → length (mipBytes m d) ≡ 188
   unfolding mipBytes
   length-mip h =
-      simp (length-append, length-end, length-replicate) (omega arith)
+      simp (length-append, length-sealed, length-front, length-lead, length-replicate) (omega arith)
 
 pub write-accepted : (m : Mip) (d out : List ℕ) → first (writeChecks m d (length out)) ≡ 0
     → writeOf m d out ≡ record { answer = record { refusal = 0; bytes = 188 }; out = overlay 0 (mipBytes m d) out }
