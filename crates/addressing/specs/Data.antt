@@ -13,6 +13,67 @@ use Rattle.functions.specs.Tags.{bodyWrong, bandwidthReserved}
 pub use Rattle.functions.specs.Tags.{house}
 use Rattle.addressing.specs.declared.Fault.{Fault}
 
+-- ---- a group at the front of what is left of the data: tx_identifier 16, function_loop_length 8, functions
+
+abbrev pub ownerOf : List ℕ → ℕ
+ownerOf l = getD l 0 0 * 256 + getD l 1 0
+
+abbrev pub loopLength : List ℕ → ℕ
+loopLength l = getD l 2 0
+
+abbrev pub groupSize : List ℕ → ℕ
+groupSize l = 3 + loopLength l
+
+-- its header is cut, or its loop passes the end (01, refusal 26)
+abbrev pub groupCut : List ℕ → Bool
+groupCut l = ltb (length l) 3 || ltb (length l) (groupSize l)
+
+unfoldable pub groupChecks : List ℕ → List Check
+groupChecks l = 26 when groupCut l ∷ []
+
+pub record Group : Type 0 where
+  pub owner : ℕ
+  pub start : ℕ  -- where its loop starts
+  pub loop : List ℕ  -- its loop's bytes
+
+abbrev pub groupAt : ℕ → List ℕ → Group
+groupAt at l = record { owner = ownerOf l; start = at + 3; loop = take (loopLength l) (drop 3 l) }
+
+-- ---- a function at the front of what is left of its loop: tag 8, function_length 8, body
+
+abbrev pub tagOf : List ℕ → ℕ
+tagOf l = getD l 0 0
+
+-- how many bytes its body has: those that function_length counts beyond the function's own
+abbrev pub bodyLength : ℕ → List ℕ → ℕ
+bodyLength own l = getD l 1 0 - own
+
+abbrev pub functionSize : ℕ → List ℕ → ℕ
+functionSize own l = 2 + bodyLength own l
+
+-- under 2 bytes left, its length under 2 (under what it counts of its own), or past its loop (01, refusal 27)
+abbrev pub functionCut : ℕ → List ℕ → Bool
+functionCut own l = ltb (length l) 2 || ltb (getD l 1 0) own || ltb (length l) (functionSize own l)
+
+unfoldable pub functionChecks : ℕ → List ℕ → List Check
+functionChecks own l =
+    27 when functionCut own l
+    ∷ 28 when bodyWrong (tagOf l) (bodyLength own l)
+    ∷ 29 when bandwidthReserved (tagOf l) (getD l 2 0)
+    ∷ []
+
+pub record Placed : Type 0 where
+  pub tag : ℕ
+  pub start : ℕ  -- where its body starts
+  pub body : ℕ  -- how many bytes its body has
+
+-- the place just after a function
+abbrev pub endOf : Placed → ℕ
+endOf f = f .start + f .body
+
+abbrev pub functionAt : ℕ → ℕ → List ℕ → Placed
+functionAt own at l = record { tag = tagOf l; start = at + 2; body = bodyLength own l }
+
 -- ---- entries one after the other: groups in data, functions in a loop. Each has a header that says how long it is
 
 -- how an entry at the front of what is left is read
@@ -53,74 +114,13 @@ entriesBy (suc k) e at (b ∷ bs) =
 unfoldable pub entriesIn : {A : Type 0} → Entry A → ℕ → List ℕ → Entries A
 entriesIn e at l = entriesBy (length l) e at l
 
--- ---- a group at the front of what is left of the data: tx_identifier 16, function_loop_length 8, functions
-
-abbrev pub ownerOf : List ℕ → ℕ
-ownerOf l = getD l 0 0 * 256 + getD l 1 0
-
-abbrev pub loopLength : List ℕ → ℕ
-loopLength l = getD l 2 0
-
-abbrev pub groupSize : List ℕ → ℕ
-groupSize l = 3 + loopLength l
-
--- its header is cut, or its loop passes the end (01, refusal 26)
-abbrev pub groupCut : List ℕ → Bool
-groupCut l = ltb (length l) 3 || ltb (length l) (groupSize l)
-
-unfoldable pub groupChecks : List ℕ → List Check
-groupChecks l = 26 when groupCut l ∷ []
-
-pub record Group : Type 0 where
-  pub owner : ℕ
-  pub start : ℕ  -- where its loop starts
-  pub loop : List ℕ  -- its loop's bytes
-
-abbrev pub groupAt : ℕ → List ℕ → Group
-groupAt at l = record { owner = ownerOf l; start = at + 3; loop = take (loopLength l) (drop 3 l) }
+-- ---- the data: its groups, and the functions of each
 
 abbrev pub group : Entry Group
 group = record { judge = λ l. first (groupChecks l); size = groupSize; read = groupAt }
 
--- ---- a function at the front of what is left of its loop: tag 8, function_length 8, body
-
-abbrev pub tagOf : List ℕ → ℕ
-tagOf l = getD l 0 0
-
--- how many bytes its body has: those that function_length counts beyond the function's own
-abbrev pub bodyLength : ℕ → List ℕ → ℕ
-bodyLength own l = getD l 1 0 - own
-
-abbrev pub functionSize : ℕ → List ℕ → ℕ
-functionSize own l = 2 + bodyLength own l
-
--- under 2 bytes left, its length under 2 (under what it counts of its own), or past its loop (01, refusal 27)
-abbrev pub functionCut : ℕ → List ℕ → Bool
-functionCut own l = ltb (length l) 2 || ltb (getD l 1 0) own || ltb (length l) (functionSize own l)
-
-unfoldable pub functionChecks : ℕ → List ℕ → List Check
-functionChecks own l =
-    27 when functionCut own l
-    ∷ 28 when bodyWrong (tagOf l) (bodyLength own l)
-    ∷ 29 when bandwidthReserved (tagOf l) (getD l 2 0)
-    ∷ []
-
-pub record Placed : Type 0 where
-  pub tag : ℕ
-  pub start : ℕ  -- where its body starts
-  pub body : ℕ  -- how many bytes its body has
-
--- the place just after a function
-abbrev pub endOf : Placed → ℕ
-endOf f = f .start + f .body
-
-abbrev pub functionAt : ℕ → ℕ → List ℕ → Placed
-functionAt own at l = record { tag = tagOf l; start = at + 2; body = bodyLength own l }
-
 abbrev pub function : ℕ → Entry Placed
 function own = record { judge = λ l. first (functionChecks own l); size = functionSize own; read = functionAt own }
-
--- ---- the data: its groups, and the functions of each
 
 abbrev pub groupsIn : ℕ → List ℕ → Entries Group
 groupsIn at l = entriesIn group at l
@@ -135,7 +135,7 @@ unfoldable pub functionsOf : ℕ → List Group → List Placed
 functionsOf own [] = []
 functionsOf own (g ∷ gs) = loopIn own g .entries ++ functionsOf own gs
 
--- the first fault of the loops of some groups; where they are good, the fault of what follows them
+-- the first bad place decides: the loops of some groups in order, and then what follows the groups
 unfoldable pub faultIn : ℕ → List Group → Fault → Fault
 faultIn own [] after = after
 faultIn own (g ∷ gs) after =
@@ -143,8 +143,8 @@ faultIn own (g ∷ gs) after =
     let here = loopIn own g .fault in
     cond (eqb (here .refusal) 0) on here
 
--- THE CHECK of the data: the number of its first fault in byte order and the place of the group or function header where that is,
--- or 0 and 0
+-- THE CHECK of the data: the number of its first fault in byte order, and the place of the group or function header where that is; 0
+-- and 0 where it is good. What follows the whole groups is a cut one or nothing
 unfoldable pub faultOf : ℕ → List ℕ → Fault
 faultOf own d = faultIn own (groupsOf d) (groupsIn 0 d .fault)
 

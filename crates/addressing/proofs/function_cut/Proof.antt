@@ -2,6 +2,8 @@
 -- Assumes nothing.
 use borrow.Author.Needs.{needs}
 use borrow.Author.Tests.{lt-ltb, le-ltb}
+use denote.Ref.{now}
+use lib.ListN.{getD}
 use mathlib.Core.Path.{sym}
 use Rattle.addressing.proofs.function_cut.Statement.{statement}
 use Rattle.addressing.proofs.function_cut.Tie as tie
@@ -14,7 +16,8 @@ byte-at-requires c κs = search needs
 
 returns-2 : tie.Need-returns-2
 returns-2 c =
-    sym (rw (le-ltb _ _ (c .before .before .if1 .left), lt-ltb _ _ (rw (c .before .byte-at .ensures) at (c .if2 .taken))))
+    let a = c .before .before .before .before .args in
+    sym (rw (le-ltb _ _ (c .before .before .if1 .left), lt-ltb (getD (now (a .l)) 1 0) (a .own) (rw (c .before .byte-at .ensures) at (c .if2 .taken))))
 
 body-length-requires : tie.Need-body-length-requires
 body-length-requires c κs = search needs
