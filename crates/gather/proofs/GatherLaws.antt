@@ -1,12 +1,11 @@
 -- The laws of gathering: what a call answers by what its stages gave, and where the waiting bytes then lie.
 -- Assumes nothing.
-use mathlib.Core.Path.{_≡_, refl, sym, ap, _∙_}
+use mathlib.Core.Path.{_≡_, refl, ap, _∙_}
 use mathlib.Core.Bool.{true, false}
 use mathlib.Core.List.{List, [], _∷_, _++_}
 use Prim.Native.Nat.{ℕ, _+_, _-_, _≤_}
-use native.Mathlib.Nat.{zero-add}
 use native.Mathlib.Omega.{arith}
-use lib.ListN.{length, take, drop, length-append, length-drop, take-append-drop}
+use lib.ListN.{length, take, drop, length-append, length-drop}
 use lib.Seq.{take-all, drop-drop}
 use Rattle.fields.specs.Parts.{part, overlay}
 use Rattle.fields.proofs.Cases.{cases}
@@ -86,20 +85,20 @@ module _ (s : Reader) (t g o : List ℕ) where
   abbrev e : Hand
   e = ruleOne (s .last) (countOf t) (inHand s g)
 
-  module _ (entered : Held) (stands : Stands entered g e) (r : Held) (g′ o′ : List ℕ) (a : Gathered) (q : a ≡ answerBy (s .pid) (countOf t) r) where
-    pub taken-start : starts t ≡ true
-        → record { held = r; gathering = g′; output = o′ } ≡ withStartOf entered (part (payloadAt t + 1) (pointerOf t) t) (drop (payloadAt t + 1 + pointerOf t) t) g o
+  module _ (entered : Held) (stands : Stands entered g e) (r : Held) (g′ o′ : List ℕ) (a : Gathered) (n m : ℕ) (at-is : n ≡ payloadAt t) (count-is : m ≡ countOf t) (q : a ≡ answerBy (s .pid) m r) where
+    pub taken-start : starts t ≡ true → (p : ℕ) → p ≡ pointerOf t
+        → record { held = r; gathering = g′; output = o′ } ≡ withStartOf entered (part (n + 1) p t) (drop (n + 1 + p) t) g o
         → record { answer = a; gathering = g′; output = o′ } ≡ takenOf s t g o
     unfolding takenOf rulesOn withStartOf
-    taken-start b f =
-        let k = rw (stands .is, ← stands .long) at f in
-        rw (brings-start t b, q, ap (λ (x : Laid). x .held) k, ap (λ (x : Laid). x .gathering) k, ap (λ (x : Laid). x .output) k)
+    taken-start b p pointer-is f =
+        let k = rw (stands .is, ← stands .long, at-is, pointer-is) at f in
+        rw (brings-start t b, q, count-is, ap (λ (x : Laid). x .held) k, ap (λ (x : Laid). x .gathering) k, ap (λ (x : Laid). x .output) k)
 
     pub taken-plain : starts t ≡ false → length t ≡ 188 → entered .waiting ≤ length g
-        → record { held = r; gathering = g′; output = o′ } ≡ ledOf entered (part (payloadAt t) (188 - payloadAt t) t) g o
+        → record { held = r; gathering = g′; output = o′ } ≡ ledOf entered (part n (188 - n) t) g o
         → record { answer = a; gathering = g′; output = o′ } ≡ takenOf s t g o
     unfolding takenOf rulesOn ledOf
     taken-plain b w i f =
-        let k = rw (stands .is, ← stands .long) at f in
+        let k = rw (stands .is, ← stands .long, at-is) at f in
         let lies : take (length (e .waiting)) g ≡ e .waiting = rw (stands .long) (ap (λ (x : Hand). x .waiting) (stands .is)) in
-        rw (brings-plain t b w, q, ap (λ (x : Laid). x .held) k, ap (λ (x : Laid). x .gathering) k, ap (λ (x : Laid). x .output) k, stage-stays (part (payloadAt t) (188 - payloadAt t) t) g e (rw (stands .long) i) lies)
+        rw (brings-plain t b w, q, count-is, ap (λ (x : Laid). x .held) k, ap (λ (x : Laid). x .gathering) k, ap (λ (x : Laid). x .output) k, stage-stays (part (payloadAt t) (188 - payloadAt t) t) g e (rw (stands .long) i) lies)

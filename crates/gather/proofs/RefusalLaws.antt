@@ -1,7 +1,7 @@
 -- The laws of gathering's refusals: which check answers, and what is known where none does.
 -- Assumes nothing.
 use mathlib.Core.Path.{_≡_, refl, sym, _∙_}
-use mathlib.Core.Bool.{Bool, true, false, cond}
+use mathlib.Core.Bool.{Bool, true, false, cond, _||_}
 use mathlib.Core.List.{List, [], _∷_, _++_}
 use Prim.Native.Nat.{ℕ, _+_, _≤_, _<_}
 use native.Mathlib.Omega.{arith}
@@ -10,7 +10,7 @@ use lib.ListN.{length, getD}
 use borrow.Author.Tests.{eq-eqb, eqb-true, le-ltb, ltb-false, leb-false, not-false}
 use Rattle.fields.proofs.Cases.{cases}
 use Rattle.refusals.specs.Checks.{Check, _when_, first}
-use Rattle.refusals.proofs.CheckLaws.{none-holds, first-front, first-behind}
+use Rattle.refusals.proofs.CheckLaws.{NoneHolds, none-holds, first-zero, first-front, first-behind}
 use Rattle.transport.specs.Header.{controlOf, countOf, starts, payloadAt, pointerOf}
 use Rattle.transport.specs.Tests.{pidOutside, fieldLong, pointerBeyond, transportChecks}
 use Rattle.gather.specs.State.{countOver, waitsOutOfStep, unfit, repeats, gatherChecks}
@@ -37,9 +37,14 @@ pub record Passed (s : Reader) (t : List ℕ) (room space : ℕ) : Type 0 where
   pub whole : length t ≡ 188
   pub roomy : 8202 ≤ room
   pub spacious : 8385 ≤ space
+  pub carriage : first (transportChecks (s .pid) t) ≡ 0
   pub field : fieldLong t ≡ false
   pub aims : pointerBeyond t ≡ false
   pub new : repeats (s .last) (countOf t) ≡ false
+
+none-front : (l m : List Check) → NoneHolds (l ++ m) → NoneHolds l
+none-front [] m h = tt
+none-front ((n when b) ∷ l) m h = (h .0, none-front l m (h .1))
 
 pub passed : (s : Reader) (t : List ℕ) (room space : ℕ) → first (gatherChecks s t room space) ≡ 0 → Passed s t room space
 unfolding gatherChecks transportChecks
@@ -50,6 +55,7 @@ passed s t room space h =
       whole = eqb-true _ _ (not-false _ (n .1 .0));
       roomy = ltb-false _ _ (n .1 .1 .0);
       spacious = ltb-false _ _ (n .1 .1 .1 .0);
+      carriage = first-zero (transportChecks (s .pid) t) (none-front (transportChecks (s .pid) t) (12 when repeats (s .last) (countOf t) ∷ []) (n .1 .1 .1 .1));
       field = n .1 .1 .1 .1 .1 .1 .1 .1 .1 .0;
       aims = n .1 .1 .1 .1 .1 .1 .1 .1 .1 .1 .0;
       new = n .1 .1 .1 .1 .1 .1 .1 .1 .1 .1 .1 .0;
@@ -81,7 +87,7 @@ pub record Fit (s : Reader) : Type 0 where
   pub few : s .waiting ≤ 8201
   pub idle : waitsOutOfStep (s .«in_step») (s .waiting) ≡ false
 
-none-of : (a b c d : Bool) → cond a true (cond b true (cond c true d)) ≡ false → (a ≡ false) × (b ≡ false) × (c ≡ false) × (d ≡ false)
+none-of : (a b c d : Bool) → (a || (b || (c || d))) ≡ false → (a ≡ false) × (b ≡ false) × (c ≡ false) × (d ≡ false)
 none-of true b c d h = (h, cc, cc, cc)
 none-of false true c d h = (refl, h, cc, cc)
 none-of false false true d h = (refl, refl, h, cc)

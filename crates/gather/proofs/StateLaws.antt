@@ -23,7 +23,7 @@ use Rattle.packet.proofs.LayoutLaws.{size-least, size-most}
 use Rattle.packet.proofs.CutLaws.{cut-short, cut-bad, cut-good, cut-cuts}
 use Rattle.transport.specs.Header.{starts, carriedAt, carriedBy, pointerOf}
 use Rattle.transport.specs.Tests.{pidOutside}
-use Rattle.transport.proofs.HeaderLaws.{count-byte}
+use Rattle.transport.proofs.HeaderLaws.{count-few}
 use Rattle.gather.specs.State.{fresh, noReader, startOf, waitsOutOfStep, unfit, gatherChecks}
 use Rattle.gather.specs.Rules.{none, Brought, broughtBy, Hand, lost, misfits, crcFails, waits, handsOut, outOfTurn, reaches, strays, ruleOne, upToStart, unfinished, follows, rulesOn}
 use Rattle.gather.specs.Gather.{Outcome, inHand, enteredOf, resultOf, refusedOf, takenOf, gatherOf}
@@ -191,7 +191,7 @@ module _ (s : Reader) (t g o : List ℕ) where
   taken-fit bt bg u =
       record {
         inside = fit-parts s u .inside;
-        counted = le-ltb 15 (broughtBy t .count) (unfold broughtBy in rw (count-byte t bt) (omega arith));
+        counted = le-ltb 15 (broughtBy t .count) (unfold broughtBy in omega (arith, count-few t));
         few = result-few bt bg u;
         idle = cases (resultOf s t g .step) (λ e. rw e) (λ e. rw (e, result-order s t g u .idle e));
       }

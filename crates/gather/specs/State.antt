@@ -1,14 +1,13 @@
 -- A reader's state: how it starts, which states are refused, and what gathering refuses (01: 38, 1, 2, 3, 5 to 12 in this
 -- order).
 use Prim.Native.Nat.{ℕ}
-use mathlib.Core.Bool.{Bool, true, false, cond, not}
+use mathlib.Core.Bool.{Bool, false, cond, _||_}
 use mathlib.Core.List.{List, [], _∷_, _++_}
 use lib.Dec.{eqb, ltb}
-use lib.ListN.{length}
 use Rattle.refusals.specs.Checks.{Check, _when_}
 use Rattle.refusals.specs.Answers.{answer}
 use Rattle.transport.specs.Header.{countOf}
-use Rattle.transport.specs.Tests.{pidOutside, transportChecks}
+use Rattle.transport.specs.Tests.{not188, pidOutside, transportChecks}
 use Rattle.gather.specs.declared.Last.{Last}
 use Rattle.gather.specs.declared.Last.the-variants.{Nothing, Count}
 use Rattle.gather.specs.declared.Reader.{Reader}
@@ -42,10 +41,8 @@ waitsOutOfStep step waiting = cond step false (ltb 0 waiting)
 -- a PID as in 4, a count over 15, over 8,201 bytes waiting, or any waiting out of step
 unfoldable pub unfit : Reader → Bool
 unfit s =
-    cond (pidOutside (s .pid)) true
-    (cond (countOver (s .last)) true
-    (cond (ltb 8201 (s .waiting)) true
-    (waitsOutOfStep (s .«in_step») (s .waiting))))
+    pidOutside (s .pid)
+    || (countOver (s .last) || (ltb 8201 (s .waiting) || waitsOutOfStep (s .«in_step») (s .waiting)))
 
 -- ---- the refusals of gathering
 
@@ -58,7 +55,7 @@ repeats (Count n) count = eqb count n
 unfoldable pub gatherChecks : Reader → List ℕ → ℕ → ℕ → List Check
 gatherChecks s t room space =
     38 when unfit s
-    ∷ 1 when not (eqb (length t) 188)
+    ∷ 1 when not188 t
     ∷ 2 when ltb room 8202
     ∷ 3 when ltb space 8385
     ∷ (transportChecks (s .pid) t ++ (12 when repeats (s .last) (countOf t) ∷ []))

@@ -9,11 +9,13 @@ ghost use lib.ListN.{length, getD, take, drop};
 ghost use Rattle.fields.specs.Parts.{part};
 ghost use Rattle.refusals.specs.Checks.{first};
 ghost use Rattle.packet.specs.Layout.{sizeOf};
+ghost use Rattle.transport.specs.Look.{lookOf};
 ghost use Rattle.gather.specs.State.{startOf, countOver, waitsOutOfStep, unfit, repeats, gatherChecks};
 ghost use Rattle.gather.specs.Rules.{outOfTurn, reaches, ruleOne};
 ghost use Rattle.gather.specs.Gather.{inHand, gatherOf};
 ghost use Rattle.gather.specs.Phases.{heldLost, heldMisfits, heldCrcFails, heldWaits, heldHandsOut, answerBy, numbers, Entered, ledOf, withStartOf, followedOf};
 use packet::Judged;
+use transport::Looked;
 
 // The last count taken, or none.
 pub enum Last {
@@ -339,8 +341,10 @@ impl Reader {
         waits_out_of_step(self.in_step, self.waiting)
     }
 
-    // The number of the refusal of gathering, or 0, with so much room in the gathering buffer and space in the output.
-    fn refusal(self, t: &[u8], room: usize, space: usize) -> u32
+    // The number of the refusal of gathering, or 0, with so much room in the gathering buffer and space in the output. seen is
+    // what was found in t.
+    fn refusal(self, t: &[u8], seen: Looked, room: usize, space: usize) -> u32
+        requires { ⌜ seen ≡ lookOf (self .pid) (now t) ⌝ }
         ensures { λ r. ⌜ r ≡ first (gatherChecks self (now (t .entry)) room space) ⌝ }
     {
         if self.is_unfit() {
@@ -355,12 +359,11 @@ impl Reader {
         if space < 8385 {
             return refusals::READER_OUTPUT_SHORT;
         }
-        let carriage = transport::refusal(t, self.pid);
-        if carriage != 0 {
-            return carriage;
+        if seen.refusal != 0 {
+            return seen.refusal;
         }
         let last = self.last;
-        if repeated(last, transport::count_of(t)) {
+        if repeated(last, seen.count) {
             return refusals::COUNT_REPEATED;
         }
         0
@@ -421,7 +424,8 @@ impl Reader {
     pub fn gather(self, transport: &[u8], gathering: &mut [u8], output: &mut [u8]) -> Gathered
         ensures { λ r. ⌜ record { answer = r; gathering = now (gathering .exit); output = now (output .exit) } ≡ gatherOf self (now (transport .entry)) (now (gathering .entry)) (now (output .entry)) ⌝ }
     {
-        let refusal = self.refusal(transport, gathering.len(), output.len());
+        let seen = transport::look(transport, self.pid);
+        let refusal = self.refusal(transport, seen, gathering.len(), output.len());
         if refusal != 0 {
             return Gathered {
                 refusal,
@@ -433,15 +437,14 @@ impl Reader {
                 crc: false,
             };
         }
-        let count = transport::count_of(transport);
-        let entered = self.enter(count, gathering);
-        let at = transport::payload_at(transport);
-        if transport::begins(transport) {
-            let pointer = transport[at] as usize;
-            let held = with_start(transport, at + 1, pointer, entered, gathering, output);
-            return held.answer(self.pid, count);
+        let entered = self.enter(seen.count, gathering);
+        let at = seen.payload;
+        if seen.begins {
+            let before = seen.pointer as usize;
+            let held = with_start(transport, at + 1, before, entered, gathering, output);
+            return held.answer(self.pid, seen.count);
         }
         let held = lead(transport, at, 188 - at, entered, gathering, output);
-        held.answer(self.pid, count)
+        held.answer(self.pid, seen.count)
     }
 }

@@ -1,62 +1,55 @@
--- The header's fields by its bytes: what code finds with a division and a remainder of one byte.
+-- The fields of a header: how large they are, and what a test of its number says of them.
 -- Assumes nothing.
-use mathlib.Core.Path.{_≡_, ap, _∙_}
-use mathlib.Core.List.{List, [], _∷_}
-use Prim.Native.Nat.{ℕ, _+_, _*_, _/_, _%_, _^_, _≤_, _<_}
+use mathlib.Core.Path.{_≡_}
+use mathlib.Core.Bool.{true, false, cond}
+use mathlib.Core.List.{List}
+use Prim.Native.Nat.{ℕ, _/_, _%_, _+_, _≤_, _<_}
 use native.Mathlib.Omega.{arith}
-use lib.Dec.{eqb}
+use lib.Dec.{eqb, leb}
 use lib.ListN.{getD}
+use borrow.Author.Tests.{eq-eqb, ne-eqb, eqb-false, lt-ltb, le-ltb}
 use Rattle.fields.specs.Formats.{unpack}
-use Rattle.fields.specs.Numbers.{Bytes, number}
-use Rattle.fields.proofs.NumberLaws.{four-bytes}
 use Rattle.fields.proofs.Cases.{cases}
-use Rattle.transport.specs.Header.{header, field, controlOf, payloadAt}
+use Rattle.transport.specs.Header.{headOf, headerField, controlOf, countOf, starts, payloadAt, pointerOf}
+use Rattle.transport.specs.Tests.{noPayload, fieldLong, pointerBeyond}
 
-module _ (t : List ℕ) (b : Bytes t) where
-  abbrev b0 : ℕ
-  b0 = getD t 0 0
+module _ (t : List ℕ) where
+  pub count-few : countOf t < 16
+  unfolding headerField unpack
+  count-few = omega arith
 
-  abbrev b1 : ℕ
-  b1 = getD t 1 0
+  -- adaptation control 00 or 10 is an even one
+  pub even-control : headOf t / 16 % 2 ≡ 0 → noPayload t ≡ true
+  unfolding headerField unpack
+  even-control e =
+      cases (eqb (headOf t / 16 % 4) 0)
+      (λ z. rw z)
+      (λ z. let n : headOf t / 16 % 4 ≡ 0 → ⊥ = eqb-false _ _ z in rw (z, eq-eqb (headOf t / 16 % 4) 2 (omega arith)))
 
-  abbrev b2 : ℕ
-  b2 = getD t 2 0
+  pub odd-control : (headOf t / 16 % 2 ≡ 0 → ⊥) → noPayload t ≡ false
+  unfolding headerField unpack
+  odd-control h = rw (ne-eqb (headOf t / 16 % 4) 0 (λ z. h (omega arith)), ne-eqb (headOf t / 16 % 4) 2 (λ z. h (omega arith)))
 
-  abbrev b3 : ℕ
-  b3 = getD t 3 0
-
-  pub sync-byte : field 0 t ≡ b0
-  unfolding field unpack
-  sync-byte = rw (four-bytes b0 b1 b2 b3) (omega (arith, b 0, b 1, b 2, b 3))
-
-  pub error-byte : field 1 t ≡ b1 / 128
-  unfolding field unpack
-  error-byte = rw (four-bytes b0 b1 b2 b3) (omega (arith, b 0, b 1, b 2, b 3))
-
-  pub start-byte : field 2 t ≡ b1 / 64 % 2
-  unfolding field unpack
-  start-byte = rw (four-bytes b0 b1 b2 b3) (omega (arith, b 0, b 1, b 2, b 3))
-
-  pub pid-bytes : field 4 t ≡ b1 % 32 * 256 + b2
-  unfolding field unpack
-  pid-bytes = rw (four-bytes b0 b1 b2 b3) (omega (arith, b 0, b 1, b 2, b 3))
-
-  pub scrambling-byte : field 5 t ≡ b3 / 64
-  unfolding field unpack
-  scrambling-byte = rw (four-bytes b0 b1 b2 b3) (omega (arith, b 0, b 1, b 2, b 3))
-
-  pub control-byte : field 6 t ≡ b3 / 16 % 4
-  unfolding field unpack
-  control-byte = rw (four-bytes b0 b1 b2 b3) (omega (arith, b 0, b 1, b 2, b 3))
-
-  pub count-byte : field 7 t ≡ b3 % 16
-  unfolding field unpack
-  count-byte = rw (four-bytes b0 b1 b2 b3) (omega (arith, b 0, b 1, b 2, b 3))
-
-  -- where the payload begins fits anything
-  pub payload-most : payloadAt t ≤ 260
-  unfolding payloadAt
-  payload-most =
+  -- a field of over 182 bytes leaves no payload within 188 bytes
+  pub payload-out : 187 < payloadAt t → fieldLong t ≡ true
+  unfolding payloadAt fieldLong
+  payload-out h =
       cases (eqb (controlOf t) 3)
-      (λ e. rw e (omega (arith, b 4)))
-      (λ e. rw e (omega arith))
+      (λ e. let k : 187 < 5 + getD t 4 0 = rw e at h in rw e (lt-ltb 182 (getD t 4 0) (omega arith)))
+      (λ e. let k : 187 < 4 = rw e at h in absurd (omega arith))
+
+  pub payload-within : payloadAt t ≤ 187 → fieldLong t ≡ false
+  unfolding payloadAt fieldLong
+  payload-within h =
+      cases (eqb (controlOf t) 3)
+      (λ e. let k : 5 + getD t 4 0 ≤ 187 = rw e at h in rw e (le-ltb 182 (getD t 4 0) (omega arith)))
+      (λ e. rw e)
+
+  -- the pointer counts only where there is a start
+  pub aims-nowhere : starts t ≡ false → pointerBeyond t ≡ false
+  unfolding pointerBeyond
+  aims-nowhere b = rw b
+
+  pub aims-by : starts t ≡ true → (n p : ℕ) → n ≡ payloadAt t → p ≡ cond (starts t) (pointerOf t) 0 → pointerBeyond t ≡ leb 188 (n + 1 + p)
+  unfolding pointerBeyond
+  aims-by b n p e f = rw (e, f, b)

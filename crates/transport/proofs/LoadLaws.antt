@@ -1,20 +1,20 @@
 -- What a reader finds in a transport packet of the writer's.
 -- Assumes nothing.
 use mathlib.Core.Path.{_≡_, refl, sym, ap, ap₂, _∙_}
-use mathlib.Core.Bool.{Bool, true, false, cond, not}
+use mathlib.Core.Bool.{false, not}
 use mathlib.Core.List.{List, [], _∷_, _++_, append-assoc}
-use Prim.Native.Nat.{ℕ, zero, suc, _+_, _-_, _*_, _^_, _≤_, _<_}
+use Prim.Native.Nat.{ℕ, zero, suc, _+_, _-_, _≤_, _<_}
 use native.Mathlib.Nat.{add-zero}
 use native.Mathlib.Omega.{arith}
-use lib.Dec.{eqb, leb, ltb, lit<}
-use lib.ListN.{length, getD, take, drop, replicate, length-append, length-replicate, List·getD-append}
+use lib.Dec.{eqb, lit<}
+use lib.ListN.{length, getD, take, drop, length-append, length-replicate}
 use lib.Seq.{take-at, drop-at, drop-drop, getD-at, getD-append-add}
 use borrow.Author.Tests.{le-ltb, lt-leb, eq-eqb}
-use Rattle.fields.specs.Formats.{pack, unpack, Fit}
-use Rattle.fields.specs.Numbers.{Bytes, number, bytes}
+use Rattle.fields.specs.Formats.{pack, Fit}
+use Rattle.fields.specs.Numbers.{number, bytes}
 use Rattle.fields.proofs.FormatLaws.{pack-lt, unpack-pack}
-use Rattle.fields.proofs.NumberLaws.{number-bytes, length-bytes, bytes-are, bytes-append}
-use Rattle.transport.specs.Header.{header, field, syncOf, errorOf, startOf, pidOf, scramblingOf, controlOf, countOf, starts, payloadAt, pointerOf, carriedAt, carriedBy}
+use Rattle.fields.proofs.NumberLaws.{number-bytes, length-bytes}
+use Rattle.transport.specs.Header.{header, headerField, startBitOf, countOf, payloadAt, carriedAt, carriedBy}
 use Rattle.transport.specs.Tests.{syncWrong, errorMarked, anotherPid, scrambled, noPayload, fieldLong, pointerBeyond}
 use Rattle.transport.specs.Load.{Load, plain, start, loadBytes, adaptation, controlFor, headBytes, transportOf}
 
@@ -24,19 +24,6 @@ pub length-adaptation : (room : ℕ) → length (adaptation room) ≡ room
 length-adaptation zero = refl
 length-adaptation (suc zero) = refl
 length-adaptation (suc (suc n)) = ap (λ (k : ℕ). suc (suc k)) (length-replicate n 0xFF)
-
-ones : (n : ℕ) → Bytes (replicate n 0xFF)
-ones zero i = lit< tt
-ones (suc n) zero = lit< tt
-ones (suc n) (suc i) = ones n i
-
-adaptation-bytes : (room : ℕ) → room ≤ 184 → Bytes (adaptation room)
-adaptation-bytes zero h i = lit< tt
-adaptation-bytes (suc zero) h zero = lit< tt
-adaptation-bytes (suc zero) h (suc i) = lit< tt
-adaptation-bytes (suc (suc n)) h zero = omega arith
-adaptation-bytes (suc (suc n)) h (suc zero) = lit< tt
-adaptation-bytes (suc (suc n)) h (suc (suc i)) = ones n i
 
 -- its first byte is its length but one
 field-length : (n : ℕ) (l : List ℕ) → getD (adaptation (suc n) ++ l) 0 0 ≡ n
@@ -76,9 +63,6 @@ module _ (pid begins count room : ℕ) (rest : List ℕ) where
   pub length-head : length t ≡ 4 + room + length rest
   length-head = ap length parts ∙ simp (length-append, length-four, length-adaptation) (omega arith)
 
-  pub head-bytes : room ≤ 184 → Bytes rest → Bytes t
-  head-bytes h b = rw parts (bytes-append four (adaptation room ++ rest) (bytes-are 4 _) (bytes-append (adaptation room) rest (adaptation-bytes room h) b))
-
   behind : drop (4 + room) t ≡ rest
   unfolding headBytes
   behind = drop-at (four ++ adaptation room) rest (4 + room) (length-append four (adaptation room) ∙ ap₂ _+_ length-four (length-adaptation room))
@@ -92,8 +76,8 @@ module _ (pid begins count room : ℕ) (rest : List ℕ) where
         ap number (four-taken t (rw length-head (omega arith)) ∙ ap (take 4) parts ∙ take-at four (adaptation room ++ rest) 4 length-four)
         ∙ number-bytes 4 (pack header (values pid begins count room)) (pack-lt header (values pid begins count room) fit)
 
-    pub head-field : (i : ℕ) → field i t ≡ getD (values pid begins count room) i 0
-    unfolding field
+    pub head-field : (i : ℕ) → headerField i t ≡ getD (values pid begins count room) i 0
+    unfolding headerField
     head-field i = rw (number-head, unpack-pack header (values pid begins count room) fit)
 
     first-behind : (n : ℕ) → room ≡ suc n → getD t 4 0 ≡ n
@@ -143,16 +127,6 @@ unfolding transportOf
 transport-length pid count (plain d) (sound-plain a b) = length-head pid 0 count (184 - length d) d ∙ omega arith
 transport-length pid count (start n d) (sound-start a b) = length-head pid 1 count (183 - length d) (n ∷ d) ∙ omega arith
 
-pub transport-bytes : (pid count : ℕ) (l : Load) → Sound l → Bytes (loadBytes l) → Bytes (transportOf pid count l)
-unfolding transportOf
-transport-bytes pid count (plain d) (sound-plain a b) h = head-bytes pid 0 count (184 - length d) d (omega arith) h
-transport-bytes pid count (start n d) (sound-start a b) h =
-    head-bytes pid 1 count (183 - length d) (n ∷ d) (omega arith) (λ i. pointed n d (omega arith) h i)
-  where
-    pointed : (k : ℕ) (m : List ℕ) → k < 256 → Bytes m → (i : ℕ) → getD (k ∷ m) i 0 < 256
-    pointed k m a b zero = a
-    pointed k m a b (suc i) = b i
-
 -- the pointer is the payload's first byte
 pointed-at : (pid begins count room n : ℕ) (d : List ℕ) → getD (headBytes pid begins count room ++ (n ∷ d)) (4 + room) 0 ≡ n
 pointed-at pid begins count room n d =
@@ -168,7 +142,7 @@ pub record Found (pid count : ℕ) (l : Load) : Type 0 where
   pub room : fieldLong (transportOf pid count l) ≡ false
   pub aims : pointerBeyond (transportOf pid count l) ≡ false
   pub counted : countOf (transportOf pid count l) ≡ count
-  pub begun : startOf (transportOf pid count l) ≡ begins l
+  pub begun : startBitOf (transportOf pid count l) ≡ begins l
   pub carries : carriedBy (transportOf pid count l) ≡ loadBytes l
 
 pub found : (pid count : ℕ) (l : Load) → pid < 8192 → count < 16 → Sound l → Found pid count l

@@ -12,37 +12,41 @@ use Rattle.fields.specs.Numbers.{number}
 abbrev pub header : List ℕ
 header = 8 ∷ 1 ∷ 1 ∷ 1 ∷ 13 ∷ 2 ∷ 2 ∷ 4 ∷ []
 
--- the header's fields; a byte that is not there counts as 0
-unfoldable pub field : ℕ → List ℕ → ℕ
-field i t = getD (unpack header (number (getD t 0 0 ∷ getD t 1 0 ∷ getD t 2 0 ∷ getD t 3 0 ∷ []))) i 0
+-- the header as one number; a byte that is not there counts as 0
+abbrev pub headOf : List ℕ → ℕ
+headOf t = number (getD t 0 0 ∷ getD t 1 0 ∷ getD t 2 0 ∷ getD t 3 0 ∷ [])
+
+-- its fields
+unfoldable pub headerField : ℕ → List ℕ → ℕ
+headerField i t = getD (unpack header (headOf t)) i 0
 
 abbrev pub syncOf : List ℕ → ℕ
-syncOf t = field 0 t
+syncOf t = headerField 0 t
 
 abbrev pub errorOf : List ℕ → ℕ
-errorOf t = field 1 t
+errorOf t = headerField 1 t
 
-abbrev pub startOf : List ℕ → ℕ
-startOf t = field 2 t
+abbrev pub startBitOf : List ℕ → ℕ
+startBitOf t = headerField 2 t
 
 abbrev pub priorityOf : List ℕ → ℕ
 priorityOf t = field 3 t
 
 abbrev pub pidOf : List ℕ → ℕ
-pidOf t = field 4 t
+pidOf t = headerField 4 t
 
 abbrev pub scramblingOf : List ℕ → ℕ
-scramblingOf t = field 5 t
+scramblingOf t = headerField 5 t
 
 abbrev pub controlOf : List ℕ → ℕ
-controlOf t = field 6 t
+controlOf t = headerField 6 t
 
 abbrev pub countOf : List ℕ → ℕ
-countOf t = field 7 t
+countOf t = headerField 7 t
 
 -- a T2-MI packet begins here
 abbrev pub starts : List ℕ → Bool
-starts t = eqb (startOf t) 1
+starts t = eqb (startBitOf t) 1
 
 -- where the payload begins: behind the adaptation field and its length byte, where adaptation control is 11
 unfoldable pub payloadAt : List ℕ → ℕ

@@ -1,15 +1,19 @@
--- The lines of 01's refusals 4 to 11, as tests on a packet of 188 bytes.
+-- The lines of 01's refusals 1 and 4 to 11, as tests.
 use Prim.Native.Nat.{ℕ, _+_}
-use mathlib.Core.Bool.{Bool, true, false, cond, not}
+use mathlib.Core.Bool.{Bool, false, cond, not, _||_}
 use mathlib.Core.List.{List, [], _∷_}
 use lib.Dec.{eqb, leb, ltb}
-use lib.ListN.{getD}
+use lib.ListN.{length, getD}
 use Rattle.refusals.specs.Checks.{Check, _when_}
 use Rattle.transport.specs.Header.{syncOf, errorOf, pidOf, scramblingOf, controlOf, starts, payloadAt, pointerOf}
 
+-- 1: transport packet is not 188 bytes
+abbrev pub not188 : List ℕ → Bool
+not188 t = not (eqb (length t) 188)
+
 -- 4: PID outside 0x0020 to 0x1FFE
 unfoldable pub pidOutside : ℕ → Bool
-pidOutside pid = cond (ltb pid 0x0020) true (ltb 0x1FFE pid)
+pidOutside pid = ltb pid 0x0020 || ltb 0x1FFE pid
 
 -- 5: first byte not 0x47
 abbrev pub syncWrong : List ℕ → Bool
@@ -29,7 +33,7 @@ scrambled t = not (eqb (scramblingOf t) 0)
 
 -- 9: no payload (adaptation control 00 or 10)
 abbrev pub noPayload : List ℕ → Bool
-noPayload t = cond (eqb (controlOf t) 0) true (eqb (controlOf t) 2)
+noPayload t = eqb (controlOf t) 0 || eqb (controlOf t) 2
 
 -- 10: adaptation control 11 and field length over 182
 unfoldable pub fieldLong : List ℕ → Bool
@@ -50,3 +54,7 @@ transportChecks pid t =
     ∷ 10 when fieldLong t
     ∷ 11 when pointerBeyond t
     ∷ []
+
+-- 1, then 5 to 11: all that a transport packet by itself is refused for
+unfoldable pub lookChecks : ℕ → List ℕ → List Check
+lookChecks pid t = 1 when not188 t ∷ transportChecks pid t

@@ -24,7 +24,7 @@ use Rattle.addressing.specs.declared.Walked.{Walked}
 use Rattle.mip.specs.Layout as mipLayout
 use Rattle.mip.specs.Read as mip
 use Rattle.mip.specs.declared.MipRead.{MipRead}
-use Rattle.transport.specs.Header.{field, payloadAt}
+use Rattle.transport.specs.Header.{headerField, payloadAt}
 use Rattle.transport.specs.Load.{plain, start, headBytes, transportOf}
 use Rattle.transport.specs.Tests.{pidOutside, fieldLong, pointerBeyond, transportChecks}
 use Rattle.carry.specs.Carry as carrying
@@ -77,11 +77,11 @@ abbrev pub space : List ℕ
 space = replicate 8385 9
 
 pub good-carrier : first (gatherChecks (fresh 0x1000) carrier (length buffer) (length space)) ≡ 0
-unfolding gatherChecks unfit pidOutside transportChecks fieldLong pointerBeyond field payloadAt transportOf headBytes number bytes pack unpack
+unfolding gatherChecks unfit pidOutside transportChecks fieldLong pointerBeyond headerField payloadAt transportOf headBytes number bytes pack unpack
 good-carrier = refl
 
 pub good-startless : first (gatherChecks (fresh 0x1000) startless (length buffer) (length space)) ≡ 0
-unfolding gatherChecks unfit pidOutside transportChecks fieldLong pointerBeyond field payloadAt transportOf headBytes number bytes pack unpack
+unfolding gatherChecks unfit pidOutside transportChecks fieldLong pointerBeyond headerField payloadAt transportOf headBytes number bytes pack unpack
 good-startless = refl
 
 -- ---- ours with one operation changed

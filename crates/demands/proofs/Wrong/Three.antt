@@ -70,7 +70,7 @@ abbrev pub refusesAll : Reader → List ℕ → List ℕ → List ℕ → gather
 refusesAll s t g o = refusedOf s g o 38
 
 pub refuses-everything : Demand3 (gatheredBy refusesAll) → ⊥
-unfolding gatherOf takenOf gatherChecks transportChecks unfit pidOutside fieldLong pointerBeyond transport.field transport.payloadAt transport.carriedAt transport.carriedBy broughtBy ruleOne joining upToStart follows rulesOn joiners judgeOf cutBy cut joined sizeOf crc.crcHolds crc.crcOf crc.run crc.feed crc.bitAt crc.shift overlay answer pack unpack number bytes batchFault numbered carryChecks carryOf loadsOf loadsBy goneOf headBytes transportOf startOf transportsIn
+unfolding gatherOf takenOf gatherChecks transportChecks unfit pidOutside fieldLong pointerBeyond transport.headerField transport.payloadAt transport.carriedAt transport.carriedBy broughtBy ruleOne joining upToStart follows rulesOn joiners judgeOf cutBy cut joined sizeOf crc.crcHolds crc.crcOf crc.run crc.feed crc.bitAt crc.shift overlay answer pack unpack number bytes batchFault numbered carryChecks carryOf loadsOf loadsBy goneOf headBytes transportOf startOf transportsIn
 refuses-everything d =
     let m = journey (gatheredBy refusesAll) d (one ∷ []) (good, tt) (writers 0 ∷ []) (omega arith, tt) in
     let z : _≡_ {A = ℕ} 0 1 = ap length (m .handed) in omega arith
@@ -86,7 +86,7 @@ onePacket s t g o =
     }
 
 pub returns-one : Demand3 (gatheredBy onePacket) → ⊥
-unfolding gatherOf takenOf gatherChecks transportChecks unfit pidOutside fieldLong pointerBeyond transport.field transport.payloadAt transport.carriedAt transport.carriedBy broughtBy ruleOne joining upToStart follows rulesOn joiners judgeOf cutBy cut joined sizeOf crc.crcHolds crc.crcOf crc.run crc.feed crc.bitAt crc.shift overlay answer pack unpack number bytes batchFault numbered carryChecks carryOf loadsOf loadsBy goneOf headBytes transportOf startOf transportsIn
+unfolding gatherOf takenOf gatherChecks transportChecks unfit pidOutside fieldLong pointerBeyond transport.headerField transport.payloadAt transport.carriedAt transport.carriedBy broughtBy ruleOne joining upToStart follows rulesOn joiners judgeOf cutBy cut joined sizeOf crc.crcHolds crc.crcOf crc.run crc.feed crc.bitAt crc.shift overlay answer pack unpack number bytes batchFault numbered carryChecks carryOf loadsOf loadsBy goneOf headBytes transportOf startOf transportsIn
 returns-one d =
     let m = journey (gatheredBy onePacket) d (one ∷ []) (good, tt) (writers 0 ∷ again 0 ∷ []) (omega arith, (refl, tt)) in
     let z : _≡_ {A = ℕ} 2 1 = ap length (m .handed) in omega arith
@@ -97,7 +97,7 @@ abbrev pub silent : Reader → List ℕ → List ℕ → List ℕ → gathering.
 silent s t g o = let x = gatherOf s t g o in record { answer = x .answer; gathering = x .gathering; output = o }
 
 pub writes-nothing : Demand3 (gatheredBy silent) → ⊥
-unfolding gatherOf takenOf gatherChecks transportChecks unfit pidOutside fieldLong pointerBeyond transport.field transport.payloadAt transport.carriedAt transport.carriedBy broughtBy ruleOne joining upToStart follows rulesOn joiners judgeOf cutBy cut joined sizeOf crc.crcHolds crc.crcOf crc.run crc.feed crc.bitAt crc.shift overlay answer pack unpack number bytes batchFault numbered carryChecks carryOf loadsOf loadsBy goneOf headBytes transportOf startOf transportsIn
+unfolding gatherOf takenOf gatherChecks transportChecks unfit pidOutside fieldLong pointerBeyond transport.headerField transport.payloadAt transport.carriedAt transport.carriedBy broughtBy ruleOne joining upToStart follows rulesOn joiners judgeOf cutBy cut joined sizeOf crc.crcHolds crc.crcOf crc.run crc.feed crc.bitAt crc.shift overlay answer pack unpack number bytes batchFault numbered carryChecks carryOf loadsOf loadsBy goneOf headBytes transportOf startOf transportsIn
 writes-nothing d =
     let m = journey (gatheredBy silent) d (one ∷ []) (good, tt) (writers 0 ∷ []) (omega arith, tt) in
     let z : _≡_ {A = ℕ} 0 1 = ap length (m .handed) in omega arith
@@ -128,7 +128,7 @@ abbrev two : List Batch
 two = one ∷ one ∷ []
 
 pub gathers-once : Demand3 (gatheredBy gathersOnce) → ⊥
-unfolding gatherOf takenOf gatherChecks transportChecks unfit pidOutside fieldLong pointerBeyond transport.field transport.payloadAt transport.carriedAt transport.carriedBy broughtBy ruleOne joining upToStart follows rulesOn joiners judgeOf cutBy cut joined sizeOf crc.crcHolds crc.crcOf crc.run crc.feed crc.bitAt crc.shift overlay answer pack unpack number bytes batchFault numbered carryChecks carryOf loadsOf loadsBy goneOf headBytes transportOf startOf transportsIn
+unfolding gatherOf takenOf gatherChecks transportChecks unfit pidOutside fieldLong pointerBeyond transport.headerField transport.payloadAt transport.carriedAt transport.carriedBy broughtBy ruleOne joining upToStart follows rulesOn joiners judgeOf cutBy cut joined sizeOf crc.crcHolds crc.crcOf crc.run crc.feed crc.bitAt crc.shift overlay answer pack unpack number bytes batchFault numbered carryChecks carryOf loadsOf loadsBy goneOf headBytes transportOf startOf transportsIn
 gathers-once d =
     let m = journey (gatheredBy gathersOnce) d two (good, (good, tt)) (writers 0 ∷ writers 1 ∷ []) (omega arith, (omega arith, omega arith, omega arith, tt)) in
     let z : _≡_ {A = ℕ} 1 2 = ap length (m .handed) in omega arith
@@ -139,7 +139,7 @@ abbrev pub fromSeven : ℕ → ℕ → List ℕ → List ℕ → Outcome
 fromSeven pid count batch out = carryOf pid 7 batch out
 
 pub invents-counts : Demand3 (carriedBy fromSeven) → ⊥
-unfolding gatherOf takenOf gatherChecks transportChecks unfit pidOutside fieldLong pointerBeyond transport.field transport.payloadAt transport.carriedAt transport.carriedBy broughtBy ruleOne joining upToStart follows rulesOn joiners judgeOf cutBy cut joined sizeOf crc.crcHolds crc.crcOf crc.run crc.feed crc.bitAt crc.shift overlay answer pack unpack number bytes batchFault numbered carryChecks carryOf loadsOf loadsBy goneOf headBytes transportOf startOf transportsIn
+unfolding gatherOf takenOf gatherChecks transportChecks unfit pidOutside fieldLong pointerBeyond transport.headerField transport.payloadAt transport.carriedAt transport.carriedBy broughtBy ruleOne joining upToStart follows rulesOn joiners judgeOf cutBy cut joined sizeOf crc.crcHolds crc.crcOf crc.run crc.feed crc.bitAt crc.shift overlay answer pack unpack number bytes batchFault numbered carryChecks carryOf loadsOf loadsBy goneOf headBytes transportOf startOf transportsIn
 invents-counts d =
     let m = journey (carriedBy fromSeven) d two (good, (good, tt)) (writers 0 ∷ writers 1 ∷ []) (omega arith, (omega arith, omega arith, omega arith, tt)) in
     let z : _≡_ {A = ℕ} 1 2 = ap length (m .handed) in omega arith
@@ -150,7 +150,7 @@ abbrev pub deaf : Reader → List ℕ → List ℕ → List ℕ → gathering.Ou
 deaf s t g o = gatherOf (record { pid = s .pid; last = Nothing; «in_step» = s .«in_step»; waiting = s .waiting }) t g o
 
 pub hands-out-again : Demand3 (gatheredBy deaf) → ⊥
-unfolding gatherOf takenOf gatherChecks transportChecks unfit pidOutside fieldLong pointerBeyond transport.field transport.payloadAt transport.carriedAt transport.carriedBy broughtBy ruleOne joining upToStart follows rulesOn joiners judgeOf cutBy cut joined sizeOf crc.crcHolds crc.crcOf crc.run crc.feed crc.bitAt crc.shift overlay answer pack unpack number bytes batchFault numbered carryChecks carryOf loadsOf loadsBy goneOf headBytes transportOf startOf transportsIn
+unfolding gatherOf takenOf gatherChecks transportChecks unfit pidOutside fieldLong pointerBeyond transport.headerField transport.payloadAt transport.carriedAt transport.carriedBy broughtBy ruleOne joining upToStart follows rulesOn joiners judgeOf cutBy cut joined sizeOf crc.crcHolds crc.crcOf crc.run crc.feed crc.bitAt crc.shift overlay answer pack unpack number bytes batchFault numbered carryChecks carryOf loadsOf loadsBy goneOf headBytes transportOf startOf transportsIn
 hands-out-again d =
     let m = journey (gatheredBy deaf) d (one ∷ []) (good, tt) (writers 0 ∷ again 0 ∷ []) (omega arith, (refl, tt)) in
     let z : _≡_ {A = ℕ} 2 1 = ap length (m .handed) in omega arith
@@ -175,13 +175,13 @@ marking loss s t g o =
     }
 
 pub marks-none : Demand3 (gatheredBy (marking false)) → ⊥
-unfolding gatherOf takenOf gatherChecks transportChecks unfit pidOutside fieldLong pointerBeyond transport.field transport.payloadAt transport.carriedAt transport.carriedBy broughtBy ruleOne joining upToStart follows rulesOn joiners judgeOf cutBy cut joined sizeOf crc.crcHolds crc.crcOf crc.run crc.feed crc.bitAt crc.shift overlay answer pack unpack number bytes batchFault numbered carryChecks carryOf loadsOf loadsBy goneOf headBytes transportOf startOf transportsIn
+unfolding gatherOf takenOf gatherChecks transportChecks unfit pidOutside fieldLong pointerBeyond transport.headerField transport.payloadAt transport.carriedAt transport.carriedBy broughtBy ruleOne joining upToStart follows rulesOn joiners judgeOf cutBy cut joined sizeOf crc.crcHolds crc.crcOf crc.run crc.feed crc.bitAt crc.shift overlay answer pack unpack number bytes batchFault numbered carryChecks carryOf loadsOf loadsBy goneOf headBytes transportOf startOf transportsIn
 marks-none d =
     let m = journey (gatheredBy (marking false)) d (one ∷ two) (good, (good, (good, tt))) (writers 0 ∷ writers 2 ∷ []) (omega arith, (omega arith, omega arith, omega arith, tt)) in
     true≢false (sym (ap (λ (l : List Bool). getD l 1 false) (m .marked)))
 
 pub marks-all : Demand3 (gatheredBy (marking true)) → ⊥
-unfolding gatherOf takenOf gatherChecks transportChecks unfit pidOutside fieldLong pointerBeyond transport.field transport.payloadAt transport.carriedAt transport.carriedBy broughtBy ruleOne joining upToStart follows rulesOn joiners judgeOf cutBy cut joined sizeOf crc.crcHolds crc.crcOf crc.run crc.feed crc.bitAt crc.shift overlay answer pack unpack number bytes batchFault numbered carryChecks carryOf loadsOf loadsBy goneOf headBytes transportOf startOf transportsIn
+unfolding gatherOf takenOf gatherChecks transportChecks unfit pidOutside fieldLong pointerBeyond transport.headerField transport.payloadAt transport.carriedAt transport.carriedBy broughtBy ruleOne joining upToStart follows rulesOn joiners judgeOf cutBy cut joined sizeOf crc.crcHolds crc.crcOf crc.run crc.feed crc.bitAt crc.shift overlay answer pack unpack number bytes batchFault numbered carryChecks carryOf loadsOf loadsBy goneOf headBytes transportOf startOf transportsIn
 marks-all d =
     let m = journey (gatheredBy (marking true)) d (one ∷ []) (good, tt) (writers 0 ∷ []) (omega arith, tt) in
     true≢false (ap (λ (l : List Bool). getD l 0 false) (m .marked))
@@ -210,7 +210,7 @@ skipsCrc s t g o =
 
 -- six bytes of a packet of ten wait, and the last four of another come
 pub joins-halves : Demand3 (gatheredBy skipsCrc) → ⊥
-unfolding gatherOf takenOf gatherChecks transportChecks unfit pidOutside fieldLong pointerBeyond transport.field transport.payloadAt transport.carriedAt transport.carriedBy broughtBy ruleOne joining upToStart follows rulesOn joiners judgeOf cutBy cut joined sizeOf crc.crcHolds crc.crcOf crc.run crc.feed crc.bitAt crc.shift overlay answer pack unpack number bytes batchFault numbered carryChecks carryOf loadsOf loadsBy goneOf headBytes transportOf startOf transportsIn
+unfolding gatherOf takenOf gatherChecks transportChecks unfit pidOutside fieldLong pointerBeyond transport.headerField transport.payloadAt transport.carriedAt transport.carriedBy broughtBy ruleOne joining upToStart follows rulesOn joiners judgeOf cutBy cut joined sizeOf crc.crcHolds crc.crcOf crc.run crc.feed crc.bitAt crc.shift overlay answer pack unpack number bytes batchFault numbered carryChecks carryOf loadsOf loadsBy goneOf headBytes transportOf startOf transportsIn
 joins-halves d =
     let m = d .clean (record { pid = 256; last = Count 0; «in_step» = true; waiting = 6 }) (transportOf 256 1 (plain (1 ∷ 2 ∷ 3 ∷ 4 ∷ []))) (take 6 five) [] in
     let z : _≡_ {A = ℕ} 1 0 = m .number in omega arith

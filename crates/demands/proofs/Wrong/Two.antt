@@ -41,7 +41,7 @@ use Rattle.mip.specs.Read as mip
 use Rattle.mip.specs.Timing as timing
 use Rattle.mip.specs.declared.MipRead.{MipRead}
 use Rattle.mip.specs.declared.Time.{Time}
-use Rattle.transport.specs.Header.{field, payloadAt, carriedAt, carriedBy as carriedBytes}
+use Rattle.transport.specs.Header.{headerField, payloadAt, carriedAt, carriedBy as carriedBytes}
 use Rattle.transport.specs.Load.{Load, plain, start, headBytes, transportOf}
 use Rattle.transport.specs.Tests.{pidOutside}
 use Rattle.carry.specs.Loads.{goneOf, loadsBy, loadsOf}
@@ -148,7 +148,7 @@ hands-five s t buffer out =
     }
 
 pub hands-out-one : Demand2 (gatheredBy hands-five) → ⊥
-unfolding gathering.takenOf broughtBy ruleOne upToStart rulesOn field payloadAt carriedAt carriedBytes sizeOf transportOf headBytes number bytes pack unpack
+unfolding gathering.takenOf broughtBy ruleOne upToStart rulesOn headerField payloadAt carriedAt carriedBytes sizeOf transportOf headBytes number bytes pack unpack
 hands-out-one d =
     let z : _≡_ {A = ℕ} 1 0 = ap (λ (o : gathering.Outcome). o .answer .packets) (d .carriage .gathers (fresh 0x1000) startless buffer space good-startless) in
     omega arith
@@ -172,7 +172,7 @@ abbrev unlaid : Reader → List ℕ → List ℕ → List ℕ → gathering.Outc
 unlaid s t buffer out = let o = ours .gather s t buffer out in record { answer = o .answer; gathering = buffer; output = out }
 
 pub hands-out-nothing : Demand2 (gatheredBy unlaid) → ⊥
-unfolding gathering.takenOf broughtBy ruleOne upToStart follows rulesOn field payloadAt carriedAt carriedBytes cut cutBy joined crcHolds crcOf run feed bitAt shift sizeOf transportOf headBytes number bytes pack unpack overlay
+unfolding gathering.takenOf broughtBy ruleOne upToStart follows rulesOn headerField payloadAt carriedAt carriedBytes cut cutBy joined crcHolds crcOf run feed bitAt shift sizeOf transportOf headBytes number bytes pack unpack overlay
 hands-out-nothing d =
     let z : _≡_ {A = ℕ} 9 5 = ap (λ (o : gathering.Outcome). getD (o .output) 1 0) (d .carriage .gathers (fresh 0x1000) carrier buffer space good-carrier) in
     omega arith

@@ -1,8 +1,6 @@
 -- `transport::pid_outside` meets its contract: under the least, or over the greatest.
 -- Assumes nothing.
-use borrow.Author.Needs.{needs}
 use borrow.Author.Tests.{lt-ltb, le-ltb}
-use mathlib.Core.Path.{_≡_}
 use Rattle.transport.specs.Tests.{pidOutside}
 use Rattle.transport.proofs.pid_outside.Statement.{statement}
 use Rattle.transport.proofs.pid_outside.Tie as tie

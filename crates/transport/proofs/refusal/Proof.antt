@@ -1,127 +1,138 @@
--- `transport::refusal` meets its contract: a chain of early returns in the order of the definition's list.
+-- `transport::refusal` meets its contract: a chain of early returns in the order of the definition's list, by the numbers of
+-- any transport packet that they were read of.
 -- Assumes nothing.
 use borrow.Author.Needs.{needs}
-use denote.Ref.{now}
-use borrow.Author.Tests.{eq-eqb, ne-eqb}
+use borrow.Author.Tests.{eq-eqb, ne-eqb, lt-leb, le-leb, not-true, not-false}
 use mathlib.Core.Path.{_≡_, sym, ap, _∙_}
-use mathlib.Core.Bool.{not}
+use mathlib.Core.Bool.{true, not}
 use mathlib.Core.List.{List}
-use Prim.Native.Nat.{ℕ, _/_}
+use Prim.Native.Nat.{ℕ, _/_, _%_}
+use native.Mathlib.Omega.{arith}
+use Rattle.fields.specs.Formats.{unpack}
 use Rattle.refusals.specs.Checks.{Check}
 use Rattle.refusals.proofs.CheckLaws.{Clear, first-at, first-none}
-use Rattle.transport.proofs.HeaderLaws.{sync-byte, error-byte, scrambling-byte}
+use Rattle.transport.specs.Header.{headOf, headerField, starts, payloadAt}
 use Rattle.transport.specs.Tests.{transportChecks}
+use Rattle.transport.specs.Look.{standsIn}
+use Rattle.transport.specs.declared.Looked.{Looked}
+use Rattle.transport.proofs.HeaderLaws.{even-control, odd-control, payload-out, payload-within, aims-nowhere, aims-by}
 use Rattle.transport.proofs.refusal.Statement.{statement}
 use Rattle.transport.proofs.refusal.Tie as tie
 
-abbrev checks : tie.Start → List Check
-checks c = transportChecks (c .args .pid) (now (c .args .t))
+-- of which the numbers were read
+module _ (t : List ℕ) where
+  abbrev checks : tie.Start → List Check
+  checks c = transportChecks (c .args .pid) t
 
-past1 : (c : tie.Else1) → Clear 1 (checks (c .before .before .before))
-unfolding transportChecks
-past1 c = (tt, ap not (eq-eqb _ _ (sync-byte (now (c .before .before .before .args .t)) (λ i. c .before .before .shared-slice-known .given i .fits) ∙ sym (c .before .byte-at .ensures) ∙ c .if1 .left)))
+  abbrev Of : tie.Start → Type 0
+  Of c = (c .args .head ≡ headOf t) × (c .args .seen ≡ standsIn t)
 
-past2 : (c : tie.Else2) → Clear 2 (checks (c .before .before .before .before .before))
-unfolding transportChecks
-past2 c = (past1 (c .before .before), ne-eqb _ _ (λ e. c .if2 .left (ap (λ (x : ℕ). x / 128) (c .before .byte-at2 .ensures) ∙ sym (error-byte (now (c .before .before .before .before .before .args .t)) (λ i. c .before .before .before .before .shared-slice-known .given i .fits)) ∙ e)))
+  past1 : (c : tie.Else1) → Of (c .before) → Clear 1 (checks (c .before))
+  unfolding transportChecks headerField unpack
+  past1 c o = (tt, ap not (eq-eqb _ _ (ap (λ (h : ℕ). h / 16777216 % 256) (sym (o .0)) ∙ c .if1 .left)))
 
-past3 : (c : tie.Else3) → Clear 3 (checks (c .before .before .before .before .before .before .before))
-unfolding transportChecks
-past3 c = (past2 (c .before .before), ap not (eq-eqb _ _ (sym (c .before .pid-of .ensures) ∙ c .if3 .left)))
+  past2 : (c : tie.Else2) → Of (c .before .before) → Clear 2 (checks (c .before .before))
+  unfolding transportChecks headerField unpack
+  past2 c o = (past1 (c .before) o, ne-eqb _ _ (λ e. c .if2 .left (ap (λ (h : ℕ). h / 8388608 % 2) (o .0) ∙ e)))
 
-past4 : (c : tie.Else4) → Clear 4 (checks (c .before .before .before .before .before .before .before .before .before))
-unfolding transportChecks
-past4 c = (past3 (c .before .before), ap not (eq-eqb _ _ (scrambling-byte (now (c .before .before .before .before .before .before .before .before .before .args .t)) (λ i. c .before .before .before .before .before .before .before .before .shared-slice-known .given i .fits) ∙ ap (λ (x : ℕ). x / 64) (sym (c .before .byte-at3 .ensures)) ∙ c .if4 .left)))
+  past3 : (c : tie.Else3) → Of (c .before .before .before) → Clear 3 (checks (c .before .before .before))
+  unfolding transportChecks headerField unpack
+  past3 c o = (past2 (c .before) o, ap not (eq-eqb _ _ (ap (λ (h : ℕ). h / 256 % 8192) (sym (o .0)) ∙ c .if3 .left)))
 
-past5 : (c : tie.Else5) → Clear 5 (checks (c .before .before .before .before .before .before .before .before .before .before .before))
-unfolding transportChecks
-past5 c = (past4 (c .before .before), sym (c .before .no-payload .ensures) ∙ c .if5 .left)
+  past4 : (c : tie.Else4) → Of (c .before .before .before .before) → Clear 4 (checks (c .before .before .before .before))
+  unfolding transportChecks headerField unpack
+  past4 c o = (past3 (c .before) o, ap not (eq-eqb _ _ (ap (λ (h : ℕ). h / 64 % 4) (sym (o .0)) ∙ c .if4 .left)))
 
-past6 : (c : tie.Else6) → Clear 6 (checks (c .before .before .before .before .before .before .before .before .before .before .before .before .before))
-unfolding transportChecks
-past6 c = (past5 (c .before .before), sym (c .before .field-long .ensures) ∙ c .if6 .left)
+  past5 : (c : tie.Else5) → Of (c .before .before .before .before .before) → Clear 5 (checks (c .before .before .before .before .before))
+  unfolding transportChecks
+  past5 c o = (past4 (c .before) o, odd-control t (λ e. c .if5 .left (ap (λ (h : ℕ). h / 16 % 2) (o .0) ∙ e)))
 
-past7 : (c : tie.Else7) → Clear 7 (checks (c .before .before .before .before .before .before .before .before .before .before .before .before .before .before .before))
-unfolding transportChecks
-past7 c = (past6 (c .before .before), sym (c .before .pointer-beyond .ensures) ∙ c .if7 .left)
+  past6 : (c : tie.Else6) → Of (c .before .before .before .before .before .before .before) → Clear 6 (checks (c .before .before .before .before .before .before .before))
+  unfolding transportChecks
+  past6 c o =
+      let p : c .before .before .before .before .before .before .before .args .seen .payload ≡ payloadAt t = ap (λ (x : Looked). x .payload) (o .1) in
+      (past5 (c .before .before) o, payload-within t (omega (arith, c .if6 .left, p)))
 
-byte-at-requires : tie.Need-byte-at-requires
-byte-at-requires c κs = search needs
+  -- where a packet begins, the test of the pointer is the code's
+  begun : (c : tie.Else7) → Of (c .before .before .before .before .before .before .before .before .before) → starts t ≡ true
+  begun c o = sym (ap (λ (x : Looked). x .begins) (o .1)) ∙ not-false _ (c .if7 .left)
 
 returns : tie.Need-returns
-unfolding transportChecks
-returns c =
-    first-at 0 (checks (c .before .before .before)) tt (ap not (ne-eqb _ _ (λ e. c .if1 .taken (c .before .byte-at .ensures ∙ sym (sync-byte (now (c .before .before .before .args .t)) (λ i. c .before .before .shared-slice-known .given i .fits)) ∙ e))))
-
-byte-at-requires-2 : tie.Need-byte-at-requires-2
-byte-at-requires-2 c κs = search needs
+unfolding transportChecks headerField unpack
+returns c t h s =
+    first-at 0 (checks t (c .before)) tt (ap not (ne-eqb _ _ (λ e. c .if1 .taken (ap (λ (x : ℕ). x / 16777216 % 256) h ∙ e))))
 
 returns-2 : tie.Need-returns-2
-unfolding transportChecks
-returns-2 c =
-    first-at 1 (checks (c .before .before .before .before .before)) (past1 (c .before .before)) (eq-eqb _ _ (error-byte (now (c .before .before .before .before .before .args .t)) (λ i. c .before .before .before .before .shared-slice-known .given i .fits) ∙ ap (λ (x : ℕ). x / 128) (sym (c .before .byte-at2 .ensures)) ∙ c .if2 .taken))
-
-pid-of-requires : tie.Need-pid-of-requires
-pid-of-requires c κs = search needs
+unfolding transportChecks headerField unpack
+returns-2 c t h s =
+    first-at 1 (checks t (c .before .before)) (past1 t (c .before) (h, s)) (eq-eqb _ _ (ap (λ (x : ℕ). x / 8388608 % 2) (sym h) ∙ c .if2 .taken))
 
 returns-3 : tie.Need-returns-3
-unfolding transportChecks
-returns-3 c =
-    first-at 2 (checks (c .before .before .before .before .before .before .before)) (past2 (c .before .before)) (ap not (ne-eqb _ _ (λ e. c .if3 .taken (c .before .pid-of .ensures ∙ e))))
-
-byte-at-requires-3 : tie.Need-byte-at-requires-3
-byte-at-requires-3 c κs = search needs
+unfolding transportChecks headerField unpack
+returns-3 c t h s =
+    first-at 2 (checks t (c .before .before .before)) (past2 t (c .before) (h, s)) (ap not (ne-eqb _ _ (λ e. c .if3 .taken (ap (λ (x : ℕ). x / 256 % 8192) h ∙ e))))
 
 returns-4 : tie.Need-returns-4
-unfolding transportChecks
-returns-4 c =
-    first-at 3 (checks (c .before .before .before .before .before .before .before .before .before)) (past3 (c .before .before)) (ap not (ne-eqb _ _ (λ e. c .if4 .taken (ap (λ (x : ℕ). x / 64) (c .before .byte-at3 .ensures) ∙ sym (scrambling-byte (now (c .before .before .before .before .before .before .before .before .before .args .t)) (λ i. c .before .before .before .before .before .before .before .before .shared-slice-known .given i .fits)) ∙ e))))
-
-no-payload-requires : tie.Need-no-payload-requires
-no-payload-requires c κs = search needs
+unfolding transportChecks headerField unpack
+returns-4 c t h s =
+    first-at 3 (checks t (c .before .before .before .before)) (past3 t (c .before) (h, s)) (ap not (ne-eqb _ _ (λ e. c .if4 .taken (ap (λ (x : ℕ). x / 64 % 4) h ∙ e))))
 
 returns-5 : tie.Need-returns-5
 unfolding transportChecks
-returns-5 c =
-    first-at 4 (checks (c .before .before .before .before .before .before .before .before .before .before .before)) (past4 (c .before .before)) (sym (c .before .no-payload .ensures) ∙ c .if5 .taken)
-
-field-long-requires : tie.Need-field-long-requires
-field-long-requires c κs = search needs
+returns-5 c t h s =
+    first-at 4 (checks t (c .before .before .before .before .before)) (past4 t (c .before) (h, s)) (even-control t (ap (λ (x : ℕ). x / 16 % 2) (sym h) ∙ c .if5 .taken))
 
 returns-6 : tie.Need-returns-6
 unfolding transportChecks
-returns-6 c =
-    first-at 5 (checks (c .before .before .before .before .before .before .before .before .before .before .before .before .before)) (past5 (c .before .before)) (sym (c .before .field-long .ensures) ∙ c .if6 .taken)
-
-pointer-beyond-requires : tie.Need-pointer-beyond-requires
-pointer-beyond-requires c κs = search needs
+returns-6 c t h s =
+    let p : c .before .before .before .before .before .before .before .args .seen .payload ≡ payloadAt t = ap (λ (x : Looked). x .payload) s in
+    first-at 5 (checks t (c .before .before .before .before .before .before .before)) (past5 t (c .before .before) (h, s)) (payload-out t (omega (arith, c .if6 .taken, p)))
 
 returns-7 : tie.Need-returns-7
 unfolding transportChecks
-returns-7 c =
-    first-at 6 (checks (c .before .before .before .before .before .before .before .before .before .before .before .before .before .before .before)) (past6 (c .before .before)) (sym (c .before .pointer-beyond .ensures) ∙ c .if7 .taken)
+returns-7 c t h s =
+    first-none (checks t (c .before .before .before .before .before .before .before .before .before)) (past6 t (c .before .before) (h, s), aims-nowhere t (sym (ap (λ (x : Looked). x .begins) s) ∙ not-true _ (c .if7 .taken)))
+
+add-if8 : tie.Need-add-if8
+add-if8 c = search needs
+
+cast-if8 : tie.Need-cast-if8
+cast-if8 c = search needs
+
+add-if8-2 : tie.Need-add-if8-2
+add-if8-2 c = search needs
 
 returns-8 : tie.Need-returns-8
 unfolding transportChecks
-returns-8 c =
-    first-none (checks (c .before .before .before .before .before .before .before .before .before .before .before .before .before .before .before)) (past7 c)
+returns-8 c t h s =
+    let k = c .before .before .before in
+    let a = k .before .before .before .before .before .before .before .before .before .args in
+    first-at 6 (checks t (k .before .before .before .before .before .before .before .before .before)) (past6 t (k .before .before) (h, s))
+    (aims-by t (begun t k (h, s)) (a .seen .payload) (a .seen .pointer) (ap (λ (x : Looked). x .payload) s) (ap (λ (x : Looked). x .pointer) s) ∙ le-leb _ _ (c .if8 .taken))
+
+returns-9 : tie.Need-returns-9
+unfolding transportChecks
+returns-9 c t h s =
+    let k = c .before .before .before in
+    let a = k .before .before .before .before .before .before .before .before .before .args in
+    first-none (checks t (k .before .before .before .before .before .before .before .before .before)) (
+      past6 t (k .before .before) (h, s),
+      aims-by t (begun t k (h, s)) (a .seen .payload) (a .seen .pointer) (ap (λ (x : Looked). x .payload) s) (ap (λ (x : Looked). x .pointer) s) ∙ lt-leb _ _ (c .if8 .left),
+    )
 
 pub refusal-spec : {M : Type 1} → statement M
 refusal-spec =
     tie.close
     (tie.spec
-    byte-at-requires
     returns
-    byte-at-requires-2
     returns-2
-    pid-of-requires
     returns-3
-    byte-at-requires-3
     returns-4
-    no-payload-requires
     returns-5
-    field-long-requires
     returns-6
-    pointer-beyond-requires
     returns-7
-    returns-8)
+    add-if8
+    cast-if8
+    add-if8-2
+    returns-8
+    returns-9)

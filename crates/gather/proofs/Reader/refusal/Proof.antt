@@ -1,4 +1,4 @@
--- `gather::Reader::refusal` meets its contract: a chain of early returns in the order of the definition's list, 5 to 11 by one call.
+-- `gather::Reader::refusal` meets its contract: a chain of early returns in the order of the definition's list, 5 to 11 by what was found.
 -- Assumes nothing.
 use borrow.Author.Needs.{needs}
 use borrow.Author.Tests.{eq-eqb, ne-eqb, lt-ltb, le-ltb}
@@ -11,6 +11,8 @@ use Rattle.refusals.specs.Checks.{Check, first}
 use Rattle.refusals.proofs.CheckLaws.{Clear, first-at}
 use Rattle.transport.specs.Header.{countOf}
 use Rattle.transport.specs.Tests.{transportChecks}
+use Rattle.transport.specs.declared.Looked.{Looked}
+use Rattle.transport.proofs.LookLaws.{look-shows, look-taken}
 use Rattle.gather.specs.State.{repeats, gatherChecks}
 use Rattle.gather.proofs.RefusalLaws.{carriage-refused, carriage-taken}
 use Rattle.gather.proofs.Reader.refusal.Statement.{statement}
@@ -47,9 +49,18 @@ taken c =
     carriage-taken (a .self) (now (a .t)) (a .room) (a .space)
     (sym (c .before .before .before .before .is-unfit .ensures) ∙ c .before .before .before .if1 .left) (c .before .before .if2 .left) (c .before .if3 .left) (c .if4 .left)
 
+-- the number of 5 to 11 that was found
+carriage : (c : tie.Else4) → c .before .before .before .before .before .before .args .seen .refusal ≡ first (transportChecks (c .before .before .before .before .before .before .args .self .pid) (now (c .before .before .before .before .before .before .args .t)))
+carriage c =
+    let s = c .before .before .before .before .before .before in
+    ap (λ (x : Looked). x .refusal) (s .pre) ∙ look-shows (s .args .self .pid) (now (s .args .t)) (c .before .before .if2 .left)
+
 -- whether the count is the last one again
-again : (c : tie.After-repeated) → c .repeated .result ≡ repeats (c .before .before .before .before .before .before .before .before .before .before .args .self .last) (countOf (now (c .before .before .before .before .before .before .before .before .before .before .args .t)))
-again c = c .repeated .ensures ∙ ap (repeats (c .before .before .before .before .before .before .before .before .before .before .args .self .last)) (c .before .count-of .ensures)
+again : (c : tie.After-repeated) → c .repeated .result ≡ repeats (c .before .before .before .before .before .before .before .before .before .args .self .last) (countOf (now (c .before .before .before .before .before .before .before .before .before .args .t)))
+again c =
+    let k = c .before .before .before in
+    let s = k .before .before .before .before .before .before in
+    c .repeated .ensures ∙ ap (λ (x : Looked). repeats (s .args .self .last) (x .count)) (s .pre ∙ look-taken (s .args .self .pid) (now (s .args .t)) (k .before .before .if2 .left) (sym (carriage k) ∙ c .before .if5 .left))
 
 is-unfit-requires : tie.Need-is-unfit-requires
 is-unfit-requires c κs = search needs
@@ -74,25 +85,19 @@ unfolding gatherChecks
 returns-4 c =
     first-at 3 (checks (c .before .before .before .before .before .before)) (past3 (c .before)) (lt-ltb _ _ (c .if4 .taken))
 
-refusal-requires : tie.Need-refusal-requires
-refusal-requires c κs = search needs
-
 returns-5 : tie.Need-returns-5
-returns-5 c = refused (c .before .before) _ (c .before .refusal .ensures) (c .if5 .taken)
-
-count-of-requires : tie.Need-count-of-requires
-count-of-requires c κs = search needs
+returns-5 c = refused (c .before .before) _ (carriage (c .before .before)) (c .if5 .taken)
 
 repeated-requires : tie.Need-repeated-requires
 repeated-requires c κs = search needs
 
 returns-6 : tie.Need-returns-6
 returns-6 c =
-    taken (c .before .before .before .before .before) true (sym (c .before .before .before .if5 .left) ∙ c .before .before .before .before .refusal .ensures) (sym (again (c .before)) ∙ c .if6 .taken)
+    taken (c .before .before .before .before) true (sym (c .before .before .if5 .left) ∙ carriage (c .before .before .before .before)) (sym (again (c .before)) ∙ c .if6 .taken)
 
 returns-7 : tie.Need-returns-7
 returns-7 c =
-    taken (c .before .before .before .before .before) false (sym (c .before .before .before .if5 .left) ∙ c .before .before .before .before .refusal .ensures) (sym (again (c .before)) ∙ c .if6 .left)
+    taken (c .before .before .before .before) false (sym (c .before .before .if5 .left) ∙ carriage (c .before .before .before .before)) (sym (again (c .before)) ∙ c .if6 .left)
 
 pub refusal-spec : {M : Type 1} → statement M
 refusal-spec =
@@ -103,9 +108,7 @@ refusal-spec =
     returns-2
     returns-3
     returns-4
-    refusal-requires
     returns-5
-    count-of-requires
     repeated-requires
     returns-6
     returns-7)
