@@ -28,39 +28,39 @@ use Rattle.gather.proofs.RefusalLaws.{fit-parts, carriage-taken}
 use Rattle.gather.proofs.EnterLaws.{rule-lost, rule-altered, rule-kept}
 use Rattle.gather.proofs.JoinLaws.{joint, stage-cases}
 use Rattle.gather.proofs.GatherLaws.{gather-refused, gather-taken}
-use Rattle.gather.proofs.StateLaws.{rule-cases, strays-cases, follows-cases, rules-cases}
+use Rattle.gather.proofs.StateLaws.{rule-cases, strays-cases, from-start-cases, rules-cases}
 use Rattle.gather.proofs.ReadingLaws.{writers-passes, accepted}
 
 -- ---- only rule 1 marks a loss
 
 module _ (loss : Bool) where
-  abbrev Marks : Hand → Type 0
-  Marks h = h .loss ≡ loss
+  abbrev HasLoss : Hand → Type 0
+  HasLoss h = h .marks .loss ≡ loss
 
-  stage-marks : (d : List ℕ) (h : Hand) → Marks h → Marks (upToStart d h)
+  stage-marks : (d : List ℕ) (h : Hand) → HasLoss h → HasLoss (upToStart d h)
   stage-marks d h m =
-      stage-cases d h Marks
+      stage-cases d h HasLoss
       (λ b. m)
-      (λ b w. strays-cases Marks d h m m)
+      (λ b w. strays-cases HasLoss d h m m)
       (λ b z k. m)
       m
-      (λ k c. strays-cases Marks (drop (sizeOf (joint d h)) (joint d h)) (handsOut (take (sizeOf (joint d h)) (joint d h) ∷ []) h) m m)
+      (λ k c. strays-cases HasLoss (drop (sizeOf (joint d h)) (joint d h)) (handsOut (take (sizeOf (joint d h)) (joint d h) ∷ []) h) m m)
 
-  unfinished-marks : (h : Hand) → Marks h → Marks (unfinished h)
+  unfinished-marks : (h : Hand) → HasLoss h → HasLoss (unfinished h)
   unfinished-marks h m = cases (none (h .waiting)) (λ b. rw b m) (λ b. rw b m)
 
-  rules-marks : (b : Brought) (h : Hand) → Marks h → Marks (rulesOn b h)
+  rules-marks : (b : Brought) (h : Hand) → HasLoss h → HasLoss (rulesOn b h)
   rules-marks b h m =
-      let front : Marks (upToStart (b .before) h) = stage-marks (b .before) h m in
-      rules-cases Marks b h front
-      (follows-cases Marks (b .onward) (unfinished (upToStart (b .before) h)) (λ e. unfinished-marks (upToStart (b .before) h) front) (λ e. unfinished-marks (upToStart (b .before) h) front))
+      let front : HasLoss (upToStart (b .before) h) = stage-marks (b .before) h m in
+      rules-cases HasLoss b h front
+      (from-start-cases HasLoss (b .onward) (unfinished (upToStart (b .before) h)) (λ e. unfinished-marks (upToStart (b .before) h) front) (λ e. unfinished-marks (upToStart (b .before) h) front))
 
 -- ---- where j are lost
 
 -- a call that is not refused, with the loss mark or without
 pub record Takes (loss : Bool) (o : Outcome) : Type 0 where
   pub refusal : o .answer .refusal ≡ 0
-  pub loss-is : o .answer .loss ≡ loss
+  pub loss-is : o .answer .marks .loss ≡ loss
 
 module _ (s : Reader) (n : ℕ) (l : Load) (g o : List ℕ) (fit : unfit s ≡ false) (last : s .last ≡ Count n) (sound : Sound l) (room : 8202 ≤ length g) (space : 8385 ≤ length o) where
   -- the writer's next one to come
@@ -90,7 +90,7 @@ module _ (s : Reader) (n : ℕ) (l : Load) (g o : List ℕ) (fit : unfit s ≡ f
     long = transport-length (s .pid) c l sound
 
     -- it is taken where its count is another, and what rule 1 marked is told
-    takes : (loss : Bool) → (c ≡ n → ⊥) → enteredOf s (after j) g .loss ≡ loss → Takes loss (gatherOf s (after j) g o)
+    takes : (loss : Bool) → (c ≡ n → ⊥) → enteredOf s (after j) g .marks .loss ≡ loss → Takes loss (gatherOf s (after j) g o)
     takes loss h e =
         let new : repeats (s .last) (countOf (after j)) ≡ false = ap (λ (x : Last). repeats x (countOf (after j))) last ∙ ap (λ (k : ℕ). eqb k n) counted ∙ ne-eqb c n h in
         rw (gather-taken s (after j) g o (accepted s (after j) (length g) (length o) fit long room space passes new))
@@ -104,7 +104,7 @@ module _ (s : Reader) (n : ℕ) (l : Load) (g o : List ℕ) (fit : unfit s ≡ f
   pub few-lost : (j : ℕ) → 0 < j → j ≤ 14 → Takes true (gatherOf s (after j) g o)
   few-lost j a b =
       let t : outOfTurn (s .last) (broughtBy (after j) .count) ≡ true = turned j ∙ ap not (ne-eqb ((n + 1 + j) % 16) ((n + 1) % 16) (λ e. omega (arith, small-count))) in
-      takes j true (λ e. omega (arith, small-count)) (ap (λ (h : Hand). h .loss) (rule-lost (s .last) (broughtBy (after j) .count) (inHand s g) t))
+      takes j true (λ e. omega (arith, small-count)) (ap (λ (h : Hand). h .marks .loss) (rule-lost (s .last) (broughtBy (after j) .count) (inHand s g) t))
 
   -- 15: it looks like a repeat. The number, zeros, the old state, both buffers as they were
   pub fifteen-lost : gatherOf s (after 15) g o ≡ refusedOf s g o 12
@@ -119,8 +119,8 @@ module _ (s : Reader) (n : ℕ) (l : Load) (g o : List ℕ) (fit : unfit s ≡ f
       let t : outOfTurn (s .last) (broughtBy (after 16) .count) ≡ false = turned 16 ∙ ap not (eq-eqb ((n + 1 + 16) % 16) ((n + 1) % 16) (omega arith)) in
       takes 16 false (λ e. omega (arith, small-count)) (unmarked t)
     where
-      unmarked : outOfTurn (s .last) (broughtBy (after 16) .count) ≡ false → enteredOf s (after 16) g .loss ≡ false
+      unmarked : outOfTurn (s .last) (broughtBy (after 16) .count) ≡ false → enteredOf s (after 16) g .marks .loss ≡ false
       unmarked t =
           cases (reaches (inHand s g .waiting))
-          (λ r. ap (λ (h : Hand). h .loss) (rule-altered (s .last) (broughtBy (after 16) .count) (inHand s g) t r))
-          (λ r. ap (λ (h : Hand). h .loss) (rule-kept (s .last) (broughtBy (after 16) .count) (inHand s g) t r))
+          (λ r. ap (λ (h : Hand). h .marks .loss) (rule-altered (s .last) (broughtBy (after 16) .count) (inHand s g) t r))
+          (λ r. ap (λ (h : Hand). h .marks .loss) (rule-kept (s .last) (broughtBy (after 16) .count) (inHand s g) t r))

@@ -41,6 +41,7 @@ use Rattle.mip.specs.declared.Time.{Time}
 use Rattle.transport.specs.Tests.{pidOutside}
 use Rattle.carry.specs.Carry as carrying
 use Rattle.gather.specs.State.{unfit, gatherChecks}
+use Rattle.gather.specs.Marks.{noMarks}
 use Rattle.gather.specs.Gather as gathering
 use Rattle.gather.specs.declared.Last.the-variants.{Count}
 use Rattle.gather.specs.declared.Reader.{Reader}
@@ -135,9 +136,7 @@ gatheredNothing old gathering output n =
         reader = old;
         bytes = 0;
         packets = 0;
-        loss = false;
-        misfit = false;
-        crc = false;
+        marks = noMarks;
       };
       gathering = gathering;
       output = output;

@@ -10,7 +10,9 @@ use Rattle.packet.specs.Cut.{AllWhole, cut, joined}
 use Rattle.transport.specs.Tests.{pidOutside}
 use Rattle.carry.specs.Loads.{loadsOf}
 use Rattle.carry.specs.Theorems.{streamOf}
+use Rattle.gather.specs.Marks.{lossAlone}
 use Rattle.gather.specs.Gather as gathering
+use Rattle.gather.specs.declared.Marks.{Marks}
 use Rattle.gather.specs.declared.Reader.{Reader}
 use Rattle.demands.specs.Library.{Library}
 use Rattle.demands.specs.Demand2.Carry.{transports}
@@ -52,18 +54,14 @@ carryAll lib pid count (b ∷ bs) =
 pub record Told : Type 0 where
   pub bytes : List ℕ
   pub packets : ℕ
-  pub loss : Bool
-  pub misfit : Bool
-  pub crc : Bool
+  pub marks : Marks
 
 abbrev pub toldBy : gathering.Outcome → Told
 toldBy o =
     record {
       bytes = take (o .answer .bytes) (o .output);
       packets = o .answer .packets;
-      loss = o .answer .loss;
-      misfit = o .answer .misfit;
-      crc = o .answer .crc;
+      marks = o .answer .marks;
     }
 
 -- call after call: the state and the gathering buffer are as the last call left them, the output holds anything
@@ -86,20 +84,19 @@ abbrev pub handedOut : List Told → List (List ℕ)
 handedOut [] = []
 handedOut (t ∷ ts) = handedBy t ++ handedOut ts
 
-abbrev pub losses : List Told → List Bool
-losses [] = []
-losses (t ∷ ts) = t .loss ∷ losses ts
+abbrev pub marksOf : List Told → List Marks
+marksOf [] = []
+marksOf (t ∷ ts) = t .marks ∷ marksOf ts
 
--- neither a misfit nor a wrong CRC is marked
-abbrev pub Fitting : List Told → Type 0
-Fitting [] = Unit
-Fitting (t ∷ ts) = (t .misfit ≡ false) × (t .crc ≡ false) × Fitting ts
+-- these losses, and neither a misfit nor a wrong CRC
+abbrev pub lossesAlone : List Bool → List Marks
+lossesAlone [] = []
+lossesAlone (b ∷ bs) = lossAlone b ∷ lossesAlone bs
 
 -- what the calls told, where these packets and these loss marks are due
-pub record Exactly (packets : List (List ℕ)) (marks : List Bool) (ts : List Told) : Type 0 where
+pub record Exactly (packets : List (List ℕ)) (losses : List Bool) (ts : List Told) : Type 0 where
   pub handed : handedOut ts ≡ packets
-  pub marked : losses ts ≡ marks
-  pub fitting : Fitting ts
+  pub marked : marksOf ts ≡ lossesAlone losses
 
 -- ---- the demand
 

@@ -1,7 +1,7 @@
 -- The laws of rule 1: how it goes, and that what waits after it is unfinished and lies in the gathering buffer.
 -- Assumes nothing.
 use mathlib.Core.Path.{_≡_, refl, sym}
-use mathlib.Core.Bool.{Bool, true, false}
+use mathlib.Core.Bool.{true, false}
 use mathlib.Core.List.{List, []}
 use Prim.Native.Nat.{ℕ, _≤_, _<_}
 use native.Mathlib.Omega.{arith}
@@ -13,12 +13,14 @@ use Rattle.fields.proofs.Cases.{cases}
 use Rattle.packet.specs.Layout.{sizeOf}
 use Rattle.packet.specs.Cut.{joined}
 use Rattle.packet.proofs.LayoutLaws.{size-least, size-take}
-use Rattle.gather.specs.Rules.{Hand, lost, misfits, outOfTurn, reaches, ruleOne}
+use Rattle.gather.specs.Marks.{noMarks, markLoss, markMisfit}
+use Rattle.gather.specs.Rules.{Hand, dropped, lost, misfits, outOfTurn, reaches, ruleOne}
 use Rattle.gather.specs.Gather.{inHand}
 use Rattle.gather.specs.Phases.{numbers, handOf, Entered}
+use Rattle.gather.specs.declared.Marks.{Marks}
 use Rattle.gather.specs.declared.Last.{Last}
 use Rattle.gather.specs.declared.Reader.{Reader}
-use Rattle.gather.specs.declared.Held.{Held}
+use Rattle.gather.specs.declared.Numbers.{Numbers}
 
 -- ---- bytes that reach their own length
 
@@ -50,7 +52,7 @@ module _ (last : Last) (count : ℕ) (h : Hand) where
 -- ---- what it leaves
 
 -- the numbers e and the buffer g stand for h, of which nothing is handed out yet
-pub record Stands (e : Held) (g : List ℕ) (h : Hand) : Type 0 where
+pub record Stands (e : Numbers) (g : List ℕ) (h : Hand) : Type 0 where
   pub entered : Entered e g
   pub is : handOf e g ≡ h
   pub long : length (h .waiting) ≡ e .waiting
@@ -59,12 +61,12 @@ module _ (s : Reader) (count : ℕ) (g : List ℕ) (few : s .waiting ≤ 8201) (
   abbrev h : Hand
   h = inHand s g
 
-  abbrev empty : Bool → Bool → Hand
-  empty loss misfit = record { step = false; waiting = []; packets = []; loss = loss; misfit = misfit; crc = false }
+  abbrev empty : Marks → Hand
+  empty marks = dropped marks h
 
-  dropped : (loss misfit : Bool) → Stands (numbers (empty loss misfit)) g (empty loss misfit)
+  left-empty : (marks : Marks) → Stands (numbers (empty marks)) g (empty marks)
   unfolding joined
-  dropped loss misfit =
+  left-empty marks =
       record {
         entered = record { bytes = refl; packets = refl; short = omega (arith, size-least (take 0 g)); few = omega arith };
         is = refl;
@@ -86,7 +88,7 @@ module _ (s : Reader) (count : ℕ) (g : List ℕ) (few : s .waiting ≤ 8201) (
   pub rule-stands : Stands (numbers (ruleOne (s .last) count h)) g (ruleOne (s .last) count h)
   rule-stands =
       cases (outOfTurn (s .last) count)
-      (λ b. rw (rule-lost (s .last) count h b) (dropped true false))
+      (λ b. rw (rule-lost (s .last) count h b) (left-empty (markLoss noMarks)))
       (λ b. cases (reaches (h .waiting))
-      (λ r. rw (rule-altered (s .last) count h b r) (dropped false true))
+      (λ r. rw (rule-altered (s .last) count h b r) (left-empty (markMisfit noMarks)))
       (λ r. rw (rule-kept (s .last) count h b r) (kept r)))

@@ -15,24 +15,24 @@ use Rattle.packet.specs.declared.Judged.{Judged}
 use Rattle.packet.specs.declared.Judged.the-variants.{Short, Bad, Good}
 use Rattle.packet.proofs.LayoutLaws.{size-least}
 use Rattle.packet.proofs.CutLaws.{cut-short, cut-bad, cut-good}
-use Rattle.gather.specs.Phases.{heldCrcFails, heldWaits, heldHandsOut, followedOf}
-use Rattle.gather.specs.declared.Held.{Held}
+use Rattle.gather.specs.Phases.{crcFailsIn, waitsIn, handsOutIn, followedOf}
+use Rattle.gather.specs.declared.Numbers.{Numbers}
 use Rattle.gather.proofs.JudgeLaws.{says}
 
 -- t from `a` on, by what the code was told of it
-module _ (t : List ℕ) (a : ℕ) (j : Judged) (e : j ≡ judgeOf (drop a t)) (h : Held) (o : List ℕ) where
+module _ (t : List ℕ) (a : ℕ) (j : Judged) (e : j ≡ judgeOf (drop a t)) (h : Numbers) (o : List ℕ) where
   abbrev l : List ℕ
   l = drop a t
 
-  pub followed-short : j ≡ Short → (n : ℕ) → n ≡ length t - a → (r : Held)
-      → r ≡ heldWaits n h
+  pub followed-short : j ≡ Short → (n : ℕ) → n ≡ length t - a → (r : Numbers)
+      → r ≡ waitsIn n h
       → record { held = r; output = o } ≡ followedOf h l o
   unfolding followedOf joined
   followed-short f n m r q =
       rw (cut-short l (says l j Short e f), length-drop a t, ← m, add-zero (h .bytes), add-zero (h .packets), overlay-none (h .bytes) o, q)
 
-  pub followed-bad : j ≡ Bad → (r : Held)
-      → r ≡ heldCrcFails h
+  pub followed-bad : j ≡ Bad → (r : Numbers)
+      → r ≡ crcFailsIn h
       → record { held = r; output = o } ≡ followedOf h l o
   unfolding followedOf joined
   followed-bad f r q =
@@ -46,8 +46,8 @@ module _ (t : List ℕ) (a : ℕ) (j : Judged) (e : j ≡ judgeOf (drop a t)) (h
         let s = says l j (Good n) e f in
         omega (arith, s .0, s .1, size-least l, length-drop a t)
 
-    pub followed-good : h .bytes + n ≤ length o → (r : Held) (after : List ℕ)
-        → r ≡ heldHandsOut n h
+    pub followed-good : h .bytes + n ≤ length o → (r : Numbers) (after : List ℕ)
+        → r ≡ handsOutIn n h
         → after ≡ copiedTo (h .bytes) n t a o
         → followedOf r (drop (a + n) t) after ≡ followedOf h l o
     unfolding followedOf joined

@@ -17,9 +17,9 @@ use Rattle.transport.specs.Header.{countOf, starts, payloadAt, pointerOf, carri
 use Rattle.gather.specs.State.{gatherChecks}
 use Rattle.gather.specs.Rules.{none, broughtBy, Hand, handsOut, strays, ruleOne, upToStart, rulesOn}
 use Rattle.gather.specs.Gather.{inHand, joiners, refusedOf, takenOf, gatherOf}
-use Rattle.gather.specs.Phases.{answerBy, Laid, ledOf, withStartOf}
+use Rattle.gather.specs.Phases.{answerBy, AfterStage, ledOf, withStartOf}
 use Rattle.gather.specs.declared.Reader.{Reader}
-use Rattle.gather.specs.declared.Held.{Held}
+use Rattle.gather.specs.declared.Numbers.{Numbers}
 use Rattle.gather.specs.declared.Gathered.{Gathered}
 use Rattle.gather.proofs.EnterLaws.{Stands}
 use Rattle.gather.proofs.JoinLaws.{passes-joiners, some-join, joint, stage-cases}
@@ -85,14 +85,14 @@ module _ (s : Reader) (t g o : List ℕ) where
   abbrev e : Hand
   e = ruleOne (s .last) (countOf t) (inHand s g)
 
-  module _ (entered : Held) (stands : Stands entered g e) (r : Held) (g′ o′ : List ℕ) (a : Gathered) (n m : ℕ) (at-is : n ≡ payloadAt t) (count-is : m ≡ countOf t) (q : a ≡ answerBy (s .pid) m r) where
+  module _ (entered : Numbers) (stands : Stands entered g e) (r : Numbers) (g′ o′ : List ℕ) (a : Gathered) (n m : ℕ) (at-is : n ≡ payloadAt t) (count-is : m ≡ countOf t) (q : a ≡ answerBy (s .pid) m r) where
     pub taken-start : starts t ≡ true → (p : ℕ) → p ≡ pointerOf t
         → record { held = r; gathering = g′; output = o′ } ≡ withStartOf entered (part (n + 1) p t) (drop (n + 1 + p) t) g o
         → record { answer = a; gathering = g′; output = o′ } ≡ takenOf s t g o
     unfolding takenOf rulesOn withStartOf
     taken-start b p pointer-is f =
         let k = rw (stands .is, ← stands .long, at-is, pointer-is) at f in
-        rw (brings-start t b, q, count-is, ap (λ (x : Laid). x .held) k, ap (λ (x : Laid). x .gathering) k, ap (λ (x : Laid). x .output) k)
+        rw (brings-start t b, q, count-is, ap (λ (x : AfterStage). x .held) k, ap (λ (x : AfterStage). x .gathering) k, ap (λ (x : AfterStage). x .output) k)
 
     pub taken-plain : starts t ≡ false → length t ≡ 188 → entered .waiting ≤ length g
         → record { held = r; gathering = g′; output = o′ } ≡ ledOf entered (part n (188 - n) t) g o
@@ -101,4 +101,4 @@ module _ (s : Reader) (t g o : List ℕ) where
     taken-plain b w i f =
         let k = rw (stands .is, ← stands .long, at-is) at f in
         let lies : take (length (e .waiting)) g ≡ e .waiting = rw (stands .long) (ap (λ (x : Hand). x .waiting) (stands .is)) in
-        rw (brings-plain t b w, q, count-is, ap (λ (x : Laid). x .held) k, ap (λ (x : Laid). x .gathering) k, ap (λ (x : Laid). x .output) k, stage-stays (part (payloadAt t) (188 - payloadAt t) t) g e (rw (stands .long) i) lies)
+        rw (brings-plain t b w, q, count-is, ap (λ (x : AfterStage). x .held) k, ap (λ (x : AfterStage). x .gathering) k, ap (λ (x : AfterStage). x .output) k, stage-stays (part (payloadAt t) (188 - payloadAt t) t) g e (rw (stands .long) i) lies)

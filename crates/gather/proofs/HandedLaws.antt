@@ -2,30 +2,27 @@
 -- the caller finds them.
 -- Assumes nothing.
 use mathlib.Core.Path.{_≡_, refl, sym, ap, _∙_}
-use mathlib.Core.Bool.{false}
 use mathlib.Core.List.{List, [], _∷_, _++_, append-nil}
-use Prim.Native.Nat.{ℕ, _+_, _*_, _≤_, _<_}
+use Prim.Native.Nat.{ℕ, _+_, _*_, _≤_}
 use native.Mathlib.Omega.{arith}
 use lib.ListN.{length, take, length-append, length-drop}
 use Rattle.fields.specs.Numbers.{Bytes}
 use Rattle.fields.proofs.Cases.{cases}
 use Rattle.fields.proofs.NumberLaws.{bytes-append}
 use Rattle.fields.proofs.PartLaws.{take-front}
-use Rattle.packet.specs.Layout.{sizeOf}
 use Rattle.packet.specs.Cut.{AllWhole, Cut, cut, joined}
 use Rattle.packet.proofs.LayoutLaws.{size-least}
 use Rattle.packet.proofs.CutLaws.{cut-cuts, first-whole, cut-all, joined-append}
 use Rattle.transport.specs.Header.{starts, pointerOf, payloadAt}
-use Rattle.gather.specs.State.{unfit}
-use Rattle.gather.specs.Rules.{Brought, broughtBy, Hand, upToStart, unfinished, follows, rulesOn}
+use Rattle.gather.specs.Rules.{Brought, broughtBy, Hand, upToStart, unfinished, fromStart, rulesOn}
 use Rattle.gather.specs.Gather.{inHand, enteredOf, resultOf, takenOf}
 use Rattle.gather.specs.Theorems.{Front, nothing, finished-one, HandedOut}
 use Rattle.gather.specs.declared.Reader.{Reader}
 use Rattle.gather.proofs.RefusalLaws.{payload-from}
 use Rattle.gather.proofs.JoinLaws.{Small, front-small, front}
-use Rattle.gather.proofs.StartLaws.{unfinished-packets, follows-packets}
+use Rattle.gather.proofs.StartLaws.{unfinished-packets, from-start-packets}
 use Rattle.gather.proofs.GatherLaws.{brings-start, brings-plain}
-use Rattle.gather.proofs.StateLaws.{rule-cases, before-bytes, entered-bytes, result-order}
+use Rattle.gather.proofs.StateLaws.{rule-cases, before-bytes, entered-bytes}
 
 -- ---- whence the packets come
 
@@ -44,9 +41,9 @@ module _ (b : Brought) (h : Hand) (p : h .packets ≡ []) where
   joined-one : Front (h .waiting) (b .before) (f .packets)
   joined-one = front (b .before) h p
 
-  with-others : follows (b .onward) (unfinished f) .packets ≡ f .packets ++ cut (b .onward) .packets
+  with-others : fromStart (b .onward) (unfinished f) .packets ≡ f .packets ++ cut (b .onward) .packets
   with-others =
-      follows-packets (b .onward) (unfinished f) ∙ ap (λ (x : List (List ℕ)). x ++ cut (b .onward) .packets) (unfinished-packets f)
+      from-start-packets (b .onward) (unfinished f) ∙ ap (λ (x : List (List ℕ)). x ++ cut (b .onward) .packets) (unfinished-packets f)
 
   pub handed-out : HandedOut (h .waiting) (b .before) (b .onward) (rulesOn b h .packets)
   unfolding rulesOn joined
@@ -137,12 +134,3 @@ module _ (s : Reader) (t g o : List ℕ) where
   pub taken-holds : take (takenOf s t g o .answer .reader .waiting) (takenOf s t g o .gathering) ≡ resultOf s t g .waiting
   unfolding takenOf
   taken-holds = take-front (resultOf s t g .waiting) _
-
-  pub taken-short : unfit s ≡ false → takenOf s t g o .answer .reader .waiting < sizeOf (take (takenOf s t g o .answer .reader .waiting) (takenOf s t g o .gathering))
-  unfolding takenOf
-  taken-short u = rw taken-holds (result-order s t g u .short)
-
-  pub taken-next : inHand (takenOf s t g o .answer .reader) (takenOf s t g o .gathering)
-      ≡ record { step = resultOf s t g .step; waiting = resultOf s t g .waiting; packets = []; loss = false; misfit = false; crc = false }
-  unfolding takenOf
-  taken-next = rw taken-holds

@@ -21,9 +21,9 @@ use Rattle.packet.proofs.LayoutLaws.{size-least, size-most, size-append}
 use Rattle.packet.proofs.CutLaws.{judged-short, judged-bad, judged-good, joined-one}
 use Rattle.gather.specs.Rules.{none, Hand, crcFails, waits, handsOut, strays, joining, upToStart}
 use Rattle.gather.specs.Gather.{joiners}
-use Rattle.gather.specs.Phases.{heldMisfits, heldCrcFails, heldWaits, heldHandsOut, numbers, handOf, Entered, Laid, ledOf}
+use Rattle.gather.specs.Phases.{misfitsIn, crcFailsIn, waitsIn, handsOutIn, numbers, handOf, Entered, AfterStage, ledOf}
 use Rattle.gather.specs.Theorems.{Front, nothing, finished-one}
-use Rattle.gather.specs.declared.Held.{Held}
+use Rattle.gather.specs.declared.Numbers.{Numbers}
 
 -- ---- waiting bytes with new ones behind them
 
@@ -121,16 +121,16 @@ module _ (d : List ℕ) (h : Hand) where
 -- ---- the same for the code
 
 -- a record of numbers by three of them
-pub numbered : (e : Held) (w b p : ℕ) → e .waiting ≡ w → e .bytes ≡ b → e .packets ≡ p
-    → e ≡ record { «in_step» = e .«in_step»; waiting = w; bytes = b; packets = p; loss = e .loss; misfit = e .misfit; crc = e .crc }
+pub numbered : (e : Numbers) (w b p : ℕ) → e .waiting ≡ w → e .bytes ≡ b → e .packets ≡ p
+    → e ≡ record { «in_step» = e .«in_step»; waiting = w; bytes = b; packets = p; marks = e .marks }
 numbered e w b p h i j = rw (← h, ← i, ← j)
 
 -- what the buffers hold where nothing joins and nothing is handed out
-laid-none : (e : Held) (g o : List ℕ) (held : Held)
-    → _≡_ {A = Laid} (record { held = held; gathering = g; output = o }) (record { held = held; gathering = overlay (e .waiting) [] g; output = overlay 0 [] o })
+laid-none : (e : Numbers) (g o : List ℕ) (held : Numbers)
+    → _≡_ {A = AfterStage} (record { held = held; gathering = g; output = o }) (record { held = held; gathering = overlay (e .waiting) [] g; output = overlay 0 [] o })
 laid-none e g o held = rw (overlay-none (e .waiting) g, overlay-none 0 o)
 
-module _ (e : Held) (d g o : List ℕ) (b : e .bytes ≡ 0) (p : e .packets ≡ 0) (i : e .waiting ≤ length g) where
+module _ (e : Numbers) (d g o : List ℕ) (b : e .bytes ≡ 0) (p : e .packets ≡ 0) (i : e .waiting ≤ length g) where
   abbrev h : Hand
   h = handOf e g
 
@@ -141,7 +141,7 @@ module _ (e : Held) (d g o : List ℕ) (b : e .bytes ≡ 0) (p : e .packets ≡ 
   pub led-passed : e .«in_step» ≡ false → record { held = e; gathering = g; output = o } ≡ ledOf e d g o
   unfolding ledOf joined
   led-passed s =
-      rw (passes d h s, passes-joiners d h s) (laid-none e g o e ∙ ap (λ (x : Held). record { held = x; gathering = overlay (e .waiting) [] g; output = overlay 0 [] o }) mine)
+      rw (passes d h s, passes-joiners d h s) (laid-none e g o e ∙ ap (λ (x : Numbers). record { held = x; gathering = overlay (e .waiting) [] g; output = overlay 0 [] o }) mine)
 
   module _ (s : e .«in_step» ≡ true) (z : e .waiting ≡ 0) where
     empty : take (e .waiting) g ≡ []
@@ -150,16 +150,16 @@ module _ (e : Held) (d g o : List ℕ) (b : e .bytes ≡ 0) (p : e .packets ≡ 
     pub led-nothing : length d ≡ 0 → record { held = e; gathering = g; output = o } ≡ ledOf e d g o
     unfolding ledOf joined
     led-nothing n =
-        rw (strays-in d h s empty, none-joins d h s empty, eq-eqb (length d) 0 n) (laid-none e g o e ∙ ap (λ (x : Held). record { held = x; gathering = overlay (e .waiting) [] g; output = overlay 0 [] o }) mine)
+        rw (strays-in d h s empty, none-joins d h s empty, eq-eqb (length d) 0 n) (laid-none e g o e ∙ ap (λ (x : Numbers). record { held = x; gathering = overlay (e .waiting) [] g; output = overlay 0 [] o }) mine)
 
-    pub led-strays : (length d ≡ 0 → ⊥) → (r : Held) → r ≡ heldMisfits e
+    pub led-strays : (length d ≡ 0 → ⊥) → (r : Numbers) → r ≡ misfitsIn e
         → record { held = r; gathering = g; output = o } ≡ ledOf e d g o
     unfolding ledOf joined
     led-strays n r q =
-        rw (strays-in d h s empty, none-joins d h s empty, ne-eqb (length d) 0 n) (laid-none e g o r ∙ ap (λ (x : Held). record { held = x; gathering = overlay (e .waiting) [] g; output = overlay 0 [] o }) (q ∙ rw (b, p)))
+        rw (strays-in d h s empty, none-joins d h s empty, ne-eqb (length d) 0 n) (laid-none e g o r ∙ ap (λ (x : Numbers). record { held = x; gathering = overlay (e .waiting) [] g; output = overlay 0 [] o }) (q ∙ rw (b, p)))
 
 -- n bytes of t at `at` join, and `size` is the packet's own length
-module _ (e : Held) (g o t : List ℕ) (at n size : ℕ) (en : Entered e g) (s : e .«in_step» ≡ true) (some : 0 < e .waiting) (room : 8202 ≤ length g)
+module _ (e : Numbers) (g o t : List ℕ) (at n size : ℕ) (en : Entered e g) (s : e .«in_step» ≡ true) (some : 0 < e .waiting) (room : 8202 ≤ length g)
     (in-t : at + n ≤ length t) (own : size ≡ sizeOf (take (e .waiting) g ++ part at n t)) (small : size ≤ 8202) where
   abbrev w : ℕ
   w = e .waiting
@@ -188,8 +188,8 @@ module _ (e : Held) (g o t : List ℕ) (at n size : ℕ) (en : Entered e g) (s :
   joining-bytes : joiners d (handOf e g) ≡ take (size - w) d
   joining-bytes = some-join d (handOf e g) s waiting ∙ rw (← own, long-w)
 
-  pub led-waits : w + n < size → (r : Held) (after : List ℕ) → after ≡ copiedTo w n t at g
-      → r ≡ heldWaits (w + n) e
+  pub led-waits : w + n < size → (r : Numbers) (after : List ℕ) → after ≡ copiedTo w n t at g
+      → r ≡ waitsIn (w + n) e
       → record { held = r; gathering = after; output = o } ≡ ledOf e d g o
   unfolding ledOf joined
   led-waits k r after f q =
@@ -212,24 +212,24 @@ module _ (e : Held) (g o t : List ℕ) (at n size : ℕ) (en : Entered e g) (s :
     finished : sizeOf all ≤ length all
     finished = rw (long, ← own) k
 
-    pub led-fails : (r : Held) (after : List ℕ) → after ≡ copiedTo w (size - w) t at g → crcHolds (take size all) ≡ false
-        → r ≡ heldCrcFails e
+    pub led-fails : (r : Numbers) (after : List ℕ) → after ≡ copiedTo w (size - w) t at g → crcHolds (take size all) ≡ false
+        → r ≡ crcFailsIn e
         → record { held = r; gathering = after; output = o } ≡ ledOf e d g o
     unfolding ledOf joined
     led-fails r after f c q =
         rw (joins-bad d (handOf e g) s waiting finished (rw (← own) c), joining-bytes, overlay-none 0 o, f ∙ stored, q, en .bytes, en .packets)
 
-    module _ (r : Held) (after out : List ℕ) (f : after ≡ copiedTo w (size - w) t at g) (c : crcHolds (take size all) ≡ true) (l : out ≡ overlay 0 (take size all) o) where
+    module _ (r : Numbers) (after out : List ℕ) (f : after ≡ copiedTo w (size - w) t at g) (c : crcHolds (take size all) ≡ true) (l : out ≡ overlay 0 (take size all) o) where
       handed : ledOf e d g o ≡ record { held = numbers (strays (drop size all) (handsOut (take size all ∷ []) (handOf e g))); gathering = after; output = overlay 0 (joined (strays (drop size all) (handsOut (take size all ∷ []) (handOf e g)) .packets)) o }
       unfolding ledOf
       handed = rw (joins-good d (handOf e g) s waiting finished (rw (← own) c), joining-bytes, f ∙ stored, ← own)
 
-      pub led-over : size < w + n → r ≡ heldMisfits (heldHandsOut size e)
+      pub led-over : size < w + n → r ≡ misfitsIn (handsOutIn size e)
           → record { held = r; gathering = after; output = out } ≡ ledOf e d g o
       led-over m q =
           sym (handed ∙ rw (ne-eqb (length (drop size all)) 0 (λ z. omega (arith, z, length-drop size all, long)), joined-one (take size all), length-take-le size all (rw long (omega arith)), l, q, en .bytes, en .packets, zero-add size))
 
-      pub led-even : w + n ≤ size → r ≡ heldHandsOut size e
+      pub led-even : w + n ≤ size → r ≡ handsOutIn size e
           → record { held = r; gathering = after; output = out } ≡ ledOf e d g o
       led-even m q =
           sym (handed ∙ rw (eq-eqb (length (drop size all)) 0 (omega (arith, length-drop size all, long)), joined-one (take size all), length-take-le size all (rw long (omega arith)), l, q, en .bytes, en .packets, zero-add size))

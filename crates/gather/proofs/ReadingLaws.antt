@@ -24,14 +24,13 @@ use Rattle.transport.specs.Tests.{fieldLong, transportChecks}
 use Rattle.transport.specs.Load.{Load, plain, start, headBytes, transportOf}
 use Rattle.transport.proofs.LoadLaws.{Sound, Found, found, length-head, head-payload}
 use Rattle.gather.specs.State.{unfit, repeats, gatherChecks}
-use Rattle.gather.specs.Rules.{none, Brought, broughtBy, Hand, waits, handsOut, ruleOne, upToStart, unfinished, follows, rulesOn}
+use Rattle.gather.specs.Rules.{none, Brought, broughtBy, Hand, waits, handsOut, ruleOne, upToStart, fromStart, rulesOn}
 use Rattle.gather.specs.Gather.{inHand, joiners, answerOf, enteredOf, resultOf, takenOf}
-use Rattle.gather.specs.Theorems.{Goes}
 use Rattle.gather.specs.declared.Last.the-variants.{Nothing, Count}
 use Rattle.gather.specs.declared.Reader.{Reader}
 use Rattle.gather.proofs.RefusalLaws.{carriage-taken, payload-in}
 use Rattle.gather.proofs.EnterLaws.{rule-kept}
-use Rattle.gather.proofs.JoinLaws.{passes, strays-in, joins-short, joins-good}
+use Rattle.gather.proofs.JoinLaws.{passes, joins-short, joins-good}
 use Rattle.gather.proofs.GatherLaws.{brings-plain}
 use Rattle.gather.proofs.StateLaws.{rule-cases}
 
@@ -99,9 +98,9 @@ whole-short a r w h =
     (λ t. omega (arith, size-append a r (leb-true 6 (length a) t), w .size, length-append a r))
     (λ t. omega (arith, size-least a, leb-false 6 (length a) t))
 
-pub follows-joined : (qs : List (List ℕ)) (v : List ℕ) (h : Hand) → AllWhole qs → length v < sizeOf v → follows (joined qs ++ v) h ≡ waits v (handsOut qs h)
-unfolding follows
-follows-joined qs v h w s = rw (cut-behind qs v w s)
+pub from-start-joined : (qs : List (List ℕ)) (v : List ℕ) (h : Hand) → AllWhole qs → length v < sizeOf v → fromStart (joined qs ++ v) h ≡ waits v (handsOut qs h)
+unfolding fromStart
+from-start-joined qs v h w s = rw (cut-behind qs v w s)
 
 -- ---- the rules, with no start
 
@@ -126,29 +125,6 @@ module _ (count : ℕ) (h : Hand) where
     pub plain-end : (d : List ℕ) → Whole (h .waiting ++ d) → rulesOn (plainly count d) h ≡ handsOut ((h .waiting ++ d) ∷ []) h
     unfolding rulesOn
     plain-end d w = stage-end d w
-
--- ---- the rules, with a start
-
-module _ (count : ℕ) (h : Hand) (qs : List (List ℕ)) (v : List ℕ) (whole : AllWhole qs) (short : length v < sizeOf v) where
-  -- nothing waits: what stands before the start changes no packet
-  pub start-none : (d : List ℕ) → h .waiting ≡ [] → Goes h qs v (rulesOn (starting count d (joined qs ++ v)) h)
-  unfolding rulesOn
-  start-none d z =
-      rw (follows-joined qs v (unfinished (upToStart d h)) whole short)
-      (cases (h .step)
-      (λ s. rw (strays-in d h s z)
-      (cases (none d)
-      (λ b. rw (b, z) (record { packets = refl; waiting = refl; step = refl; loss = refl }))
-      (λ b. rw b (record { packets = refl; waiting = refl; step = refl; loss = refl }))))
-      (λ s. rw (passes d h s, z) (record { packets = refl; waiting = refl; step = refl; loss = refl })))
-
-  -- a packet is under way, and d ends it
-  pub start-under : (d : List ℕ) → h .step ≡ true → none (h .waiting) ≡ false → Whole (h .waiting ++ d)
-      → Goes h ((h .waiting ++ d) ∷ qs) v (rulesOn (starting count d (joined qs ++ v)) h)
-  unfolding rulesOn
-  start-under d s z w =
-      rw (follows-joined qs v (unfinished (upToStart d h)) whole short, stage-end count h s z d w)
-      (record { packets = append-assoc (h .packets) ((h .waiting ++ d) ∷ []) qs; waiting = refl; step = refl; loss = refl })
 
 -- ---- the gathering buffer stays as long
 

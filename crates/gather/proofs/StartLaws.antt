@@ -16,10 +16,10 @@ use Rattle.fields.proofs.NumberLaws.{bytes-take, bytes-append}
 use Rattle.fields.proofs.PartLaws.{part-none, part-bytes, overlay-next, copied-to}
 use Rattle.packet.specs.Cut.{Cut, cut, joined}
 use Rattle.packet.proofs.CutLaws.{cut-cuts, joined-append}
-use Rattle.gather.specs.Rules.{none, Hand, misfits, upToStart, unfinished, follows}
+use Rattle.gather.specs.Rules.{none, Hand, misfits, upToStart, unfinished, fromStart}
 use Rattle.gather.specs.Gather.{joiners}
-use Rattle.gather.specs.Phases.{heldMisfits, numbers, handOf, Laid, ledOf, withStartOf, Ahead, followedOf}
-use Rattle.gather.specs.declared.Held.{Held}
+use Rattle.gather.specs.Phases.{misfitsIn, numbers, handOf, AfterStage, ledOf, withStartOf, AfterStart, followedOf}
+use Rattle.gather.specs.declared.Numbers.{Numbers}
 use Rattle.gather.proofs.JoinLaws.{Small, front, front-small}
 
 -- ---- the stages from the start on, on numbers
@@ -30,9 +30,9 @@ unfinished-numbers f = cases (none (f .waiting)) (λ b. rw b) (λ b. rw b)
 pub unfinished-packets : (f : Hand) → unfinished f .packets ≡ f .packets
 unfinished-packets f = cases (none (f .waiting)) (λ b. rw b) (λ b. rw b)
 
-pub follows-packets : (l : List ℕ) (f : Hand) → follows l f .packets ≡ f .packets ++ cut l .packets
-unfolding follows
-follows-packets l f = cases (cut l .bad) (λ b. rw b) (λ b. rw b)
+pub from-start-packets : (l : List ℕ) (f : Hand) → fromStart l f .packets ≡ f .packets ++ cut l .packets
+unfolding fromStart
+from-start-packets l f = cases (cut l .bad) (λ b. rw b) (λ b. rw b)
 
 module _ (l : List ℕ) (f : Hand) (o : List ℕ) where
   abbrev ps : List (List ℕ)
@@ -46,9 +46,9 @@ module _ (l : List ℕ) (f : Hand) (o : List ℕ) where
       overlay-next 0 (joined (f .packets)) (joined ps) o (length (joined (f .packets))) (zero-add (length (joined (f .packets)))) (omega arith)
       ∙ ap (λ (x : List ℕ). overlay 0 x o) (sym (joined-append (f .packets) ps))
 
-  pub follows-numbers : followedOf (numbers f) l (overlay 0 (joined (f .packets)) o) ≡ record { held = numbers (follows l f); output = overlay 0 (joined (follows l f .packets)) o }
-  unfolding followedOf follows
-  follows-numbers =
+  pub from-start-numbers : followedOf (numbers f) l (overlay 0 (joined (f .packets)) o) ≡ record { held = numbers (fromStart l f); output = overlay 0 (joined (fromStart l f .packets)) o }
+  unfolding followedOf fromStart
+  from-start-numbers =
       cases (cut l .bad)
       (λ b. rw (b, laid-on, bytes-on, length-append (f .packets) ps))
       (λ b. rw (b, laid-on, bytes-on, length-append (f .packets) ps))
@@ -70,33 +70,33 @@ module _ (t : List ℕ) (a : ℕ) (f : Hand) (i : a ≤ length t) where
       sym (drop-drop (length (joined (c .packets))) a t) ∙ ap (drop (length (joined (c .packets)))) (sym (cut-cuts (drop a t) .bytes)) ∙ drop-at (joined (c .packets)) (c .rest) (length (joined (c .packets))) refl in
       rw (k, d) (take-length (c .rest))
 
-  pub waits-there : part (length t - length (follows (drop a t) f .waiting)) (length (follows (drop a t) f .waiting)) t ≡ follows (drop a t) f .waiting
-  unfolding follows
+  pub waits-there : part (length t - length (fromStart (drop a t) f .waiting)) (length (fromStart (drop a t) f .waiting)) t ≡ fromStart (drop a t) f .waiting
+  unfolding fromStart
   waits-there = cases (c .bad) (λ b. rw b (part-none _ t)) (λ b. rw b rest-there)
 
-  pub waits-few : length (follows (drop a t) f .waiting) ≤ length t - a
-  unfolding follows
+  pub waits-few : length (fromStart (drop a t) f .waiting) ≤ length t - a
+  unfolding fromStart
   waits-few = cases (c .bad) (λ b. rw b (omega arith)) (λ b. rw b (omega (arith, split)))
 
 -- ---- the whole, as the code goes
 
-module _ (e : Held) (g o t : List ℕ) (at n : ℕ) (whole : length t ≡ 188) (in-t : at + n ≤ length t) (first : Held) (g1 o1 : List ℕ)
-    (led : record { held = first; gathering = g1; output = o1 } ≡ ledOf e (part at n t) g o) (begun : Held)
-    (dropped : begun ≡ cond (eqb (first .waiting) 0) first (heldMisfits first)) where
+module _ (e : Numbers) (g o t : List ℕ) (at n : ℕ) (whole : length t ≡ 188) (in-t : at + n ≤ length t) (first : Numbers) (g1 o1 : List ℕ)
+    (led : record { held = first; gathering = g1; output = o1 } ≡ ledOf e (part at n t) g o) (begun : Numbers)
+    (dropped : begun ≡ cond (eqb (first .waiting) 0) first (misfitsIn first)) where
   abbrev f : Hand
   f = upToStart (part at n t) (handOf e g)
 
   first-is : first ≡ numbers f
   unfolding ledOf
-  first-is = ap (λ (x : Laid). x .held) led
+  first-is = ap (λ (x : AfterStage). x .held) led
 
   g1-is : g1 ≡ overlay (e .waiting) (joiners (part at n t) (handOf e g)) g
   unfolding ledOf
-  g1-is = ap (λ (x : Laid). x .gathering) led
+  g1-is = ap (λ (x : AfterStage). x .gathering) led
 
   o1-is : o1 ≡ overlay 0 (joined (f .packets)) o
   unfolding ledOf
-  o1-is = ap (λ (x : Laid). x .output) led
+  o1-is = ap (λ (x : AfterStage). x .output) led
 
   begun-is : begun ≡ numbers (unfinished f)
   begun-is = dropped ∙ rw first-is (unfinished-numbers f)
@@ -106,18 +106,18 @@ module _ (e : Held) (g o t : List ℕ) (at n : ℕ) (whole : length t ≡ 188) (
       let s : Small (f .packets) = front-small (bytes-append (take (e .waiting) g) (part at n t) (bytes-take (e .waiting) g bg) (part-bytes at n t bt)) (front (part at n t) (handOf e g) refl) in
       rw (begun-is, unfinished-packets f) (s .number, s .bytes)
 
-  module _ (r : Held) (o2 : List ℕ) (went : record { held = r; output = o2 } ≡ followedOf begun (drop (at + n) t) o1) where
+  module _ (r : Numbers) (o2 : List ℕ) (went : record { held = r; output = o2 } ≡ followedOf begun (drop (at + n) t) o1) where
     abbrev h : Hand
-    h = follows (drop (at + n) t) (unfinished f)
+    h = fromStart (drop (at + n) t) (unfinished f)
 
-    on : _≡_ {A = Ahead} (record { held = r; output = o2 }) (record { held = numbers h; output = overlay 0 (joined (h .packets)) o })
+    on : _≡_ {A = AfterStart} (record { held = r; output = o2 }) (record { held = numbers h; output = overlay 0 (joined (h .packets)) o })
     on =
         went
-        ∙ ap₂ (λ (x : Held) (m : List ℕ). followedOf x (drop (at + n) t) m) begun-is (o1-is ∙ ap (λ (x : List (List ℕ)). overlay 0 (joined x) o) (sym (unfinished-packets f)))
-        ∙ follows-numbers (drop (at + n) t) (unfinished f) o
+        ∙ ap₂ (λ (x : Numbers) (m : List ℕ). followedOf x (drop (at + n) t) m) begun-is (o1-is ∙ ap (λ (x : List (List ℕ)). overlay 0 (joined x) o) (sym (unfinished-packets f)))
+        ∙ from-start-numbers (drop (at + n) t) (unfinished f) o
 
     r-is : r ≡ numbers h
-    r-is = ap (λ (x : Ahead). x .held) on
+    r-is = ap (λ (x : AfterStart). x .held) on
 
     pub left-few : r .waiting ≤ 188 - (at + n)
     left-few = rw (r-is, ← whole) (waits-few t (at + n) (unfinished f) in-t)
@@ -126,8 +126,8 @@ module _ (e : Held) (g o t : List ℕ) (at n : ℕ) (whole : length t ≡ 188) (
         → record { held = r; gathering = g2; output = o2 } ≡ withStartOf e (part at n t) (drop (at + n) t) g o
     unfolding withStartOf
     with-start g2 room q =
-        let k : r .waiting ≡ length (h .waiting) = ap (λ (x : Held). x .waiting) r-is in
+        let k : r .waiting ≡ length (h .waiting) = ap (λ (x : Numbers). x .waiting) r-is in
         let c : g2 ≡ overlay 0 (h .waiting) g1 =
         q ∙ copied-to 0 (r .waiting) t (188 - r .waiting) g1 (omega (arith, left-few)) (omega (arith, left-few))
         ∙ ap (λ (x : List ℕ). overlay 0 x g1) (rw (k, ← whole) (waits-there t (at + n) (unfinished f) in-t)) in
-        rw (c, g1-is, r-is, ap (λ (x : Ahead). x .output) on)
+        rw (c, g1-is, r-is, ap (λ (x : AfterStart). x .output) on)

@@ -25,7 +25,7 @@ use Rattle.transport.specs.Header.{starts, carriedAt, carriedBy, pointerOf}
 use Rattle.transport.specs.Tests.{pidOutside}
 use Rattle.transport.proofs.HeaderLaws.{count-few}
 use Rattle.gather.specs.State.{fresh, noReader, startOf, waitsOutOfStep, unfit, gatherChecks}
-use Rattle.gather.specs.Rules.{none, Brought, broughtBy, Hand, lost, misfits, crcFails, waits, handsOut, outOfTurn, reaches, strays, ruleOne, upToStart, unfinished, follows, rulesOn}
+use Rattle.gather.specs.Rules.{none, Brought, broughtBy, Hand, lost, misfits, crcFails, waits, handsOut, outOfTurn, reaches, strays, ruleOne, upToStart, unfinished, fromStart, rulesOn}
 use Rattle.gather.specs.Gather.{Outcome, inHand, enteredOf, resultOf, refusedOf, takenOf, gatherOf}
 use Rattle.gather.specs.Theorems.{InOrder}
 use Rattle.gather.specs.declared.Last.{Last}
@@ -62,12 +62,12 @@ rule-cases P last count h gone altered kept =
 pub strays-cases : (P : Hand → Type 0) (l : List ℕ) (h : Hand) → P h → P (misfits h) → P (strays l h)
 strays-cases P l h even over = cases (none l) (λ b. rw b even) (λ b. rw b over)
 
-pub follows-cases : (P : Hand → Type 0) (l : List ℕ) (h : Hand) → (cut l .bad ≡ true → P (crcFails (handsOut (cut l .packets) h))) → (cut l .bad ≡ false → P (waits (cut l .rest) (handsOut (cut l .packets) h)))
-    → P (follows l h)
-unfolding follows
-follows-cases P l h bad good = cases (cut l .bad) (λ b. rw b (bad b)) (λ b. rw b (good b))
+pub from-start-cases : (P : Hand → Type 0) (l : List ℕ) (h : Hand) → (cut l .bad ≡ true → P (crcFails (handsOut (cut l .packets) h))) → (cut l .bad ≡ false → P (waits (cut l .rest) (handsOut (cut l .packets) h)))
+    → P (fromStart l h)
+unfolding fromStart
+from-start-cases P l h bad good = cases (cut l .bad) (λ b. rw b (bad b)) (λ b. rw b (good b))
 
-pub rules-cases : (P : Hand → Type 0) (b : Brought) (h : Hand) → P (upToStart (b .before) h) → P (follows (b .onward) (unfinished (upToStart (b .before) h))) → P (rulesOn b h)
+pub rules-cases : (P : Hand → Type 0) (b : Brought) (h : Hand) → P (upToStart (b .before) h) → P (fromStart (b .onward) (unfinished (upToStart (b .before) h))) → P (rulesOn b h)
 unfolding rulesOn
 rules-cases P b h plain start = cases (b .begins) (λ e. rw e start) (λ e. rw e plain)
 
@@ -104,14 +104,14 @@ stage-order d h s =
     (λ k c. let out : Hand = handsOut (take (sizeOf (joint d h)) (joint d h) ∷ []) h in
     strays-cases InOrder (drop (sizeOf (joint d h)) (joint d h)) out (empty-order out refl) (empty-order (misfits out) refl))
 
-pub follows-order : (l : List ℕ) (h : Hand) → InOrder (follows l h)
-follows-order l h =
-    follows-cases InOrder l h
+pub from-start-order : (l : List ℕ) (h : Hand) → InOrder (fromStart l h)
+from-start-order l h =
+    from-start-cases InOrder l h
     (λ b. empty-order (crcFails (handsOut (cut l .packets) h)) refl)
     (λ b. record { short = rest-short l b; idle = λ e. absurd (true≢false e) })
 
 pub rules-order : (b : Brought) (h : Hand) → InOrder h → InOrder (rulesOn b h)
-rules-order b h s = rules-cases InOrder b h (stage-order (b .before) h s) (follows-order (b .onward) (unfinished (upToStart (b .before) h)))
+rules-order b h s = rules-cases InOrder b h (stage-order (b .before) h s) (from-start-order (b .onward) (unfinished (upToStart (b .before) h)))
 
 -- after any call of a fit state
 pub result-order : (s : Reader) (t g : List ℕ) → unfit s ≡ false → InOrder (resultOf s t g)
@@ -144,9 +144,9 @@ rest-is : (l : List ℕ) → cut l .rest ≡ drop (length (joined (cut l .packet
 rest-is l =
     sym (ap (drop (length (joined (cut l .packets)))) (sym (cut-cuts l .bytes)) ∙ drop-at (joined (cut l .packets)) (cut l .rest) (length (joined (cut l .packets))) refl)
 
-pub follows-bytes : (l : List ℕ) (h : Hand) → Bytes l → Bytes (follows l h .waiting)
-follows-bytes l h b =
-    follows-cases WaitsBytes l h (λ e. no-bytes) (λ e. rw (rest-is l) (bytes-drop (length (joined (cut l .packets))) l b))
+pub from-start-bytes : (l : List ℕ) (h : Hand) → Bytes l → Bytes (fromStart l h .waiting)
+from-start-bytes l h b =
+    from-start-cases WaitsBytes l h (λ e. no-bytes) (λ e. rw (rest-is l) (bytes-drop (length (joined (cut l .packets))) l b))
 
 module _ (t : List ℕ) (bt : Bytes t) where
   carried-are : Bytes (carriedBy t)
@@ -168,7 +168,7 @@ pub result-bytes : (s : Reader) (t g : List ℕ) → Bytes t → Bytes g → Byt
 result-bytes s t g bt bg =
     rules-cases WaitsBytes (broughtBy t) (enteredOf s t g)
     (stage-bytes (broughtBy t .before) (enteredOf s t g) (before-bytes t bt) (entered-bytes s t g bg))
-    (follows-bytes (broughtBy t .onward) (unfinished (upToStart (broughtBy t .before) (enteredOf s t g))) (onward-bytes t bt))
+    (from-start-bytes (broughtBy t .onward) (unfinished (upToStart (broughtBy t .before) (enteredOf s t g))) (onward-bytes t bt))
 
 -- ---- a refusal changes nothing
 

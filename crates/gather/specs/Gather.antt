@@ -1,6 +1,6 @@
 -- Gathering one transport packet: what the rules give, as the numbers of the answer and the bytes of the two buffers.
 use Prim.Native.Nat.{ℕ, _-_}
-use mathlib.Core.Bool.{false, cond}
+use mathlib.Core.Bool.{cond}
 use mathlib.Core.List.{List, [], _++_}
 use lib.ListN.{length, take}
 use Rattle.fields.specs.Parts.{overlay}
@@ -8,6 +8,7 @@ use Rattle.refusals.specs.Answers.{answer}
 use Rattle.packet.specs.Layout.{sizeOf}
 use Rattle.packet.specs.Cut.{joined}
 use Rattle.gather.specs.State.{gatherChecks}
+use Rattle.gather.specs.Marks.{noMarks}
 use Rattle.gather.specs.Rules.{none, Brought, broughtBy, Hand, ruleOne, rulesOn}
 use Rattle.gather.specs.declared.Last.the-variants.{Count}
 use Rattle.gather.specs.declared.Reader.{Reader}
@@ -22,7 +23,7 @@ pub record Outcome : Type 0 where
 -- what a call finds: the waiting bytes are the first of the gathering buffer
 abbrev pub inHand : Reader → List ℕ → Hand
 inHand s gathering =
-    record { step = s .«in_step»; waiting = take (s .waiting) gathering; packets = []; loss = false; misfit = false; crc = false }
+    record { step = s .«in_step»; waiting = take (s .waiting) gathering; packets = []; marks = noMarks }
 
 -- the bytes of d that join waiting ones, up to the packet's own length
 unfoldable pub joiners : List ℕ → Hand → List ℕ
@@ -41,16 +42,14 @@ answerOf pid count h =
       reader = nextOf pid count h;
       bytes = length (joined (h .packets));
       packets = length (h .packets);
-      loss = h .loss;
-      misfit = h .misfit;
-      crc = h .crc;
+      marks = h .marks;
     }
 
 -- a refusal: its number, zeros, the old state, both buffers as they were
 abbrev pub refusedOf : Reader → List ℕ → List ℕ → ℕ → Outcome
 refusedOf s gathering output n =
     record {
-      answer = record { refusal = n; reader = s; bytes = 0; packets = 0; loss = false; misfit = false; crc = false };
+      answer = record { refusal = n; reader = s; bytes = 0; packets = 0; marks = noMarks };
       gathering = gathering;
       output = output;
     }

@@ -10,6 +10,8 @@ use Rattle.packet.specs.Cut.{judgeOf, cut}
 use Rattle.packet.specs.declared.Judged.{Judged}
 use Rattle.packet.specs.declared.Judged.the-variants.{Short, Bad, Good}
 use Rattle.transport.specs.Header.{countOf, starts, pointerOf, carriedBy}
+use Rattle.gather.specs.Marks.{markLoss, markMisfit, markCrc}
+use Rattle.gather.specs.declared.Marks.{Marks}
 use Rattle.gather.specs.declared.Last.{Last}
 use Rattle.gather.specs.declared.Last.the-variants.{Nothing, Count}
 
@@ -41,27 +43,28 @@ pub record Hand : Type 0 where
   pub step : Bool
   pub waiting : List ℕ
   pub packets : List (List ℕ)
-  pub loss : Bool
-  pub misfit : Bool
-  pub crc : Bool
+  pub marks : Marks
 
--- the three marks: each drops what waits, and the reader is out of step
+-- each mark drops what waits, and the reader is out of step
+abbrev pub dropped : Marks → Hand → Hand
+dropped marks h = record { step = false; waiting = []; packets = h .packets; marks = marks }
+
 abbrev pub lost : Hand → Hand
-lost h = record { step = false; waiting = []; packets = h .packets; loss = true; misfit = h .misfit; crc = h .crc }
+lost h = dropped (markLoss (h .marks)) h
 
 abbrev pub misfits : Hand → Hand
-misfits h = record { step = false; waiting = []; packets = h .packets; loss = h .loss; misfit = true; crc = h .crc }
+misfits h = dropped (markMisfit (h .marks)) h
 
 abbrev pub crcFails : Hand → Hand
-crcFails h = record { step = false; waiting = []; packets = h .packets; loss = h .loss; misfit = h .misfit; crc = true }
+crcFails h = dropped (markCrc (h .marks)) h
 
 -- in step, with these bytes of an unfinished packet
 abbrev pub waits : List ℕ → Hand → Hand
-waits l h = record { step = true; waiting = l; packets = h .packets; loss = h .loss; misfit = h .misfit; crc = h .crc }
+waits l h = record { step = true; waiting = l; packets = h .packets; marks = h .marks }
 
 -- finished packets whose CRC holds; nothing of them waits any more
 abbrev pub handsOut : List (List ℕ) → Hand → Hand
-handsOut ps h = record { step = h .step; waiting = []; packets = h .packets ++ ps; loss = h .loss; misfit = h .misfit; crc = h .crc }
+handsOut ps h = record { step = h .step; waiting = []; packets = h .packets ++ ps; marks = h .marks }
 
 -- ---- rule 1
 
@@ -112,8 +115,8 @@ abbrev pub unfinished : Hand → Hand
 unfinished h = cond (none (h .waiting)) h (misfits h)
 
 -- packet after packet by their own lengths, up to the first whose CRC is wrong; what is left waits
-unfoldable pub follows : List ℕ → Hand → Hand
-follows l h =
+unfoldable pub fromStart : List ℕ → Hand → Hand
+fromStart l h =
     let c = cut l in
     cond (c .bad) (crcFails (handsOut (c .packets) h)) (waits (c .rest) (handsOut (c .packets) h))
 
@@ -122,4 +125,4 @@ follows l h =
 unfoldable pub rulesOn : Brought → Hand → Hand
 rulesOn b h =
     let front = upToStart (b .before) h in
-    cond (b .begins) (follows (b .onward) (unfinished front)) front
+    cond (b .begins) (fromStart (b .onward) (unfinished front)) front

@@ -29,10 +29,3 @@ pub record HandedOut (w d l : List ℕ) (ps : List (List ℕ)) : Type 0 where
   pub is : ps ≡ one ++ others
   pub joins : Front w d one
   pub follow : joined others ++ rest ≡ l
-
--- from h to k the packets ps were handed out, v waits in step, and there is no new loss mark
-pub record Goes (h : Hand) (ps : List (List ℕ)) (v : List ℕ) (k : Hand) : Type 0 where
-  pub packets : k .packets ≡ h .packets ++ ps
-  pub waiting : k .waiting ≡ v
-  pub step : k .step ≡ true
-  pub loss : k .loss ≡ h .loss

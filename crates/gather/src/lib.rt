@@ -11,9 +11,10 @@ ghost use Rattle.refusals.specs.Checks.{first};
 ghost use Rattle.packet.specs.Layout.{sizeOf};
 ghost use Rattle.transport.specs.Look.{lookOf};
 ghost use Rattle.gather.specs.State.{startOf, countOver, waitsOutOfStep, unfit, repeats, gatherChecks};
+ghost use Rattle.gather.specs.Marks.{noMarks, markLoss, markMisfit, markCrc};
 ghost use Rattle.gather.specs.Rules.{outOfTurn, reaches, ruleOne};
 ghost use Rattle.gather.specs.Gather.{inHand, gatherOf};
-ghost use Rattle.gather.specs.Phases.{heldLost, heldMisfits, heldCrcFails, heldWaits, heldHandsOut, answerBy, numbers, Entered, ledOf, withStartOf, followedOf};
+ghost use Rattle.gather.specs.Phases.{droppedIn, lostIn, misfitsIn, crcFailsIn, waitsIn, handsOutIn, answerBy, numbers, Entered, ledOf, withStartOf, followedOf};
 use packet::Judged;
 use transport::Looked;
 
@@ -38,26 +39,29 @@ pub struct Started {
     pub reader: Reader,
 }
 
+// The marks of a call.
+pub struct Marks {
+    pub loss: bool,
+    pub misfit: bool,
+    pub crc: bool,
+}
+
 // What a call gives: the next state, the bytes and packets written, and the marks; with a refusal the old state and zeros.
 pub struct Gathered {
     pub refusal: u32,
     pub reader: Reader,
     pub bytes: usize,
     pub packets: usize,
-    pub loss: bool,
-    pub misfit: bool,
-    pub crc: bool,
+    pub marks: Marks,
 }
 
-// What a call has in hand between two stages.
-struct Held {
+// The numbers of what a call has in hand between two stages.
+struct Numbers {
     in_step: bool,
     waiting: usize,
     bytes: usize,
     packets: usize,
-    loss: bool,
-    misfit: bool,
-    crc: bool,
+    marks: Marks,
 }
 
 // Whether a last count cannot be one.
@@ -136,83 +140,107 @@ fn reached(gathering: &[u8], w: usize) -> bool
     packet::own_length(gathering, 0) <= w
 }
 
-// The marks, and the steps that set none: each as in specs/Rules.antt, on numbers.
-impl Held {
-    fn lost(self) -> Held
-        ensures { λ r. ⌜ r ≡ heldLost self ⌝ }
+impl Marks {
+    // As a call begins, and with a refusal.
+    fn none() -> Marks
+        ensures { λ r. ⌜ r ≡ noMarks ⌝ }
     {
-        Held {
+        Marks {
+            loss: false,
+            misfit: false,
+            crc: false,
+        }
+    }
+
+    fn with_loss(mut self) -> Marks
+        ensures { λ r. ⌜ r ≡ markLoss self ⌝ }
+    {
+        self.loss = true;
+        self
+    }
+
+    fn with_misfit(mut self) -> Marks
+        ensures { λ r. ⌜ r ≡ markMisfit self ⌝ }
+    {
+        self.misfit = true;
+        self
+    }
+
+    fn with_crc(mut self) -> Marks
+        ensures { λ r. ⌜ r ≡ markCrc self ⌝ }
+    {
+        self.crc = true;
+        self
+    }
+}
+
+// The steps of specs/Rules.antt, on numbers: the three that set a mark, and those that set none.
+impl Numbers {
+    // Out of step with nothing waiting, under these marks.
+    fn dropped(self, marks: Marks) -> Numbers
+        ensures { λ r. ⌜ r ≡ droppedIn marks self ⌝ }
+    {
+        Numbers {
             in_step: false,
             waiting: 0, // what waited is dropped
             bytes: self.bytes,
             packets: self.packets,
-            loss: true,
-            misfit: self.misfit,
-            crc: self.crc,
+            marks,
         }
     }
 
-    fn misfits(self) -> Held
-        ensures { λ r. ⌜ r ≡ heldMisfits self ⌝ }
+    fn lost(self) -> Numbers
+        ensures { λ r. ⌜ r ≡ lostIn self ⌝ }
     {
-        Held {
-            in_step: false,
-            waiting: 0,
-            bytes: self.bytes,
-            packets: self.packets,
-            loss: self.loss,
-            misfit: true,
-            crc: self.crc,
-        }
+        let marks = self.marks;
+        self.dropped(marks.with_loss())
     }
 
-    fn crc_fails(self) -> Held
-        ensures { λ r. ⌜ r ≡ heldCrcFails self ⌝ }
+    fn misfits(self) -> Numbers
+        ensures { λ r. ⌜ r ≡ misfitsIn self ⌝ }
     {
-        Held {
-            in_step: false,
-            waiting: 0,
-            bytes: self.bytes,
-            packets: self.packets,
-            loss: self.loss,
-            misfit: self.misfit,
-            crc: true,
-        }
+        let marks = self.marks;
+        self.dropped(marks.with_misfit())
     }
 
-    fn waits(self, n: usize) -> Held
-        ensures { λ r. ⌜ r ≡ heldWaits n self ⌝ }
+    fn crc_fails(self) -> Numbers
+        ensures { λ r. ⌜ r ≡ crcFailsIn self ⌝ }
     {
-        Held {
+        let marks = self.marks;
+        self.dropped(marks.with_crc())
+    }
+
+    fn waits(self, n: usize) -> Numbers
+        ensures { λ r. ⌜ r ≡ waitsIn n self ⌝ }
+    {
+        let marks = self.marks;
+        Numbers {
             in_step: true,
             waiting: n,
             bytes: self.bytes,
             packets: self.packets,
-            loss: self.loss,
-            misfit: self.misfit,
-            crc: self.crc,
+            marks,
         }
     }
 
     // A packet of n bytes.
-    fn hands_out(self, n: usize) -> Held
+    fn hands_out(self, n: usize) -> Numbers
         requires { ⌜ (self .bytes + n < 65536) × (self .packets < 65536) ⌝ }
-        ensures { λ r. ⌜ r ≡ heldHandsOut n self ⌝ }
+        ensures { λ r. ⌜ r ≡ handsOutIn n self ⌝ }
     {
-        Held {
+        let marks = self.marks;
+        Numbers {
             in_step: self.in_step,
             waiting: 0,
             bytes: self.bytes + n,
             packets: self.packets + 1,
-            loss: self.loss,
-            misfit: self.misfit,
-            crc: self.crc,
+            marks,
         }
     }
 
     // Drops a packet that is unfinished where another starts.
-    fn unfinished(self) -> Held
-        ensures { λ r. ⌜ r ≡ cond (eqb (self .waiting) 0) self (heldMisfits self) ⌝ }
+    fn unfinished(self) -> Numbers
+        ensures { λ r. ⌜ r ≡ cond (eqb (self .waiting) 0) self (misfitsIn self) ⌝ }
     {
         if self.waiting == 0 {
             return self;
@@ -224,6 +252,7 @@ impl Held {
     fn answer(self, pid: u16, count: u8) -> Gathered
         ensures { λ r. ⌜ r ≡ answerBy pid count self ⌝ }
     {
+        let marks = self.marks;
         Gathered {
             refusal: 0,
             reader: Reader {
@@ -234,15 +263,20 @@ impl Held {
             },
             bytes: self.bytes,
             packets: self.packets,
-            loss: self.loss,
-            misfit: self.misfit,
-            crc: self.crc,
+            marks,
         }
     }
 }
 
 // Rules 2 to 4 where bytes wait: the n bytes of t at at join them, up to the packet's own length.
-fn join(t: &[u8], at: usize, n: usize, e: Held, gathering: &mut [u8], output: &mut [u8]) -> Held
+fn join(
+    t: &[u8],
+    at: usize,
+    n: usize,
+    e: Numbers,
+    gathering: &mut [u8],
+    output: &mut [u8],
+) -> Numbers
     requires { ⌜ Entered e (now gathering) × (e .«in_step» ≡ true) × (0 < e .waiting) × (8202 ≤ length (now gathering)) × (8202 ≤ length (now output)) × (at + n ≤ length (now t)) × (length (now t) ≡ 188) ⌝ }
     ensures { λ r. ⌜ record { held = r; gathering = now (gathering .exit); output = now (output .exit) } ≡ ledOf e (part at n (now (t .entry))) (now (gathering .entry)) (now (output .entry)) ⌝ }
 {
@@ -267,7 +301,14 @@ fn join(t: &[u8], at: usize, n: usize, e: Held, gathering: &mut [u8], output: &m
 }
 
 // Rules 2 to 4 up to the start, or to the end where there is none: the n bytes of t at at.
-fn lead(t: &[u8], at: usize, n: usize, e: Held, gathering: &mut [u8], output: &mut [u8]) -> Held
+fn lead(
+    t: &[u8],
+    at: usize,
+    n: usize,
+    e: Numbers,
+    gathering: &mut [u8],
+    output: &mut [u8],
+) -> Numbers
     requires { ⌜ Entered e (now gathering) × (8202 ≤ length (now gathering)) × (8202 ≤ length (now output)) × (at + n ≤ length (now t)) × (length (now t) ≡ 188) ⌝ }
     ensures { λ r. ⌜ record { held = r; gathering = now (gathering .exit); output = now (output .exit) } ≡ ledOf e (part at n (now (t .entry))) (now (gathering .entry)) (now (output .entry)) ⌝ }
 {
@@ -284,7 +325,7 @@ fn lead(t: &[u8], at: usize, n: usize, e: Held, gathering: &mut [u8], output: &m
 }
 
 // From the start on, packet after packet of t by their own lengths.
-fn follow(t: &[u8], at: usize, h: Held, output: &mut [u8]) -> Held
+fn follow(t: &[u8], at: usize, h: Numbers, output: &mut [u8]) -> Numbers
     requires { ⌜ (at ≤ length (now t)) × (length (now t) ≡ 188) × (h .packets ≤ 1) × (h .bytes ≤ 8202) × (h .bytes + (length (now t) - at) ≤ length (now output)) ⌝ }
     ensures { λ r. ⌜ record { held = r; output = now (output .exit) } ≡ followedOf h (drop at (now (t .entry))) (now (output .entry)) ⌝ }
 {
@@ -309,10 +350,10 @@ fn with_start(
     t: &[u8],
     at: usize,
     n: usize,
-    e: Held,
+    e: Numbers,
     gathering: &mut [u8],
     output: &mut [u8],
-) -> Held
+) -> Numbers
     requires { ⌜ Entered e (now gathering) × (8202 ≤ length (now gathering)) × (8385 ≤ length (now output)) × (5 ≤ at) × (at + n ≤ length (now t)) × (length (now t) ≡ 188) ⌝ }
     ensures { λ r. ⌜ record { held = r; gathering = now (gathering .exit); output = now (output .exit) } ≡ withStartOf e (part at n (now (t .entry))) (drop (at + n) (now (t .entry))) (now (gathering .entry)) (now (output .entry)) ⌝ }
 {
@@ -396,18 +437,17 @@ impl Reader {
     }
 
     // Rule 1.
-    fn enter(self, count: u8, gathering: &[u8]) -> Held
+    fn enter(self, count: u8, gathering: &[u8]) -> Numbers
         requires { ⌜ self .waiting ≤ length (now gathering) ⌝ }
         ensures { λ r. ⌜ r ≡ numbers (ruleOne (self .last) count (inHand self (now (gathering .entry)))) ⌝ }
     {
-        let held = Held {
+        let marks = Marks::none();
+        let held = Numbers {
             in_step: self.in_step,
             waiting: self.waiting,
             bytes: 0,
             packets: 0, // nothing is handed out yet
-            loss: false,
-            misfit: false,
-            crc: false,
+            marks,
         };
         let last = self.last;
         if out_of_turn(last, count) {
@@ -427,14 +467,13 @@ impl Reader {
         let seen = transport::look(transport, self.pid);
         let refusal = self.refusal(transport, seen, gathering.len(), output.len());
         if refusal != 0 {
+            let marks = Marks::none();
             return Gathered {
                 refusal,
                 reader: self,
                 bytes: 0,
                 packets: 0,
-                loss: false,
-                misfit: false,
-                crc: false,
+                marks,
             };
         }
         let entered = self.enter(seen.count, gathering);

@@ -14,7 +14,7 @@ use Rattle.packet.specs.Cut.{cutBy, cut, joined}
 use Rattle.transport.specs.Header.{headerField, payloadAt, carriedAt, carriedBy}
 use Rattle.transport.specs.Tests.{pidOutside, fieldLong, pointerBeyond, transportChecks}
 use Rattle.gather.specs.State.{unfit, gatherChecks}
-use Rattle.gather.specs.Rules.{broughtBy, ruleOne, upToStart, follows, rulesOn}
+use Rattle.gather.specs.Rules.{broughtBy, ruleOne, upToStart, fromStart, rulesOn}
 use Rattle.gather.specs.Gather.{takenOf, gatherOf}
 use Rattle.text.specs.Digits.{spellBy, spell, digits}
 use Rattle.text.specs.Laid.{word}
@@ -24,5 +24,5 @@ use Rattle.lines.specs.Theorems.{calls, handedAll, losses, textOf, listi
 use Rattle.lines.specs.Rows.{exampleTransport, exampleText}
 
 pub example-listed : listingOf (exampleTransport ∷ []) ≡ exampleText
-unfolding listingOf calls textOf handedAll losses exampleTransport exampleText handedBy capped linesOf lineBy fieldsLine word headLine lastLine digits spell spellBy gatherOf takenOf gatherChecks unfit broughtBy ruleOne upToStart follows rulesOn pidOutside fieldLong pointerBeyond transportChecks headerField payloadAt carriedAt carriedBy cutBy cut joined headerOf payloadOf readChecks readOf reservedType padSet sizeOf answer part overlay numberAt number pack unpack shift bitAt feed run crcOf crcHolds
+unfolding listingOf calls textOf handedAll losses exampleTransport exampleText handedBy capped linesOf lineBy fieldsLine word headLine lastLine digits spell spellBy gatherOf takenOf gatherChecks unfit broughtBy ruleOne upToStart fromStart rulesOn pidOutside fieldLong pointerBeyond transportChecks headerField payloadAt carriedAt carriedBy cutBy cut joined headerOf payloadOf readChecks readOf reservedType padSet sizeOf answer part overlay numberAt number pack unpack shift bitAt feed run crcOf crcHolds
 example-listed = refl

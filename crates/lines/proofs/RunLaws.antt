@@ -205,19 +205,19 @@ module _ (x : Piece) (xs : List Piece) (r e : Run) where
         ∙ capped-add n (a .answer .packets)
         ∙ ap (λ (p : ℕ). capped (n + p)) k
 
-    gaps-on : (m : ℕ) → r .listing .gaps ≡ capped m → e .listing .gaps ≡ capped (m + bit (b .answer .loss))
+    gaps-on : (m : ℕ) → r .listing .gaps ≡ capped m → e .listing .gaps ≡ capped (m + bit (b .answer .marks .loss))
     gaps-on m h =
         ap (λ (l : Listing). l .gaps) (d .listing)
-        ∙ ap (λ (p : ℕ). capped (p + bit (a .answer .loss))) h
-        ∙ capped-add m (bit (a .answer .loss))
-        ∙ ap (λ (y : Gathered). capped (m + bit (y .loss))) (alike .answer)
+        ∙ ap (λ (p : ℕ). capped (p + bit (a .answer .marks .loss))) h
+        ∙ capped-add m (bit (a .answer .marks .loss))
+        ∙ ap (λ (y : Gathered). capped (m + bit (y .marks .loss))) (alike .answer)
 
-    ran-on : (f : Run) (n m : ℕ) → Ran e f (n + length (handedBy b)) (m + bit (b .answer .loss)) (answersTo xs e) → Ran r f n m (answersTo (x ∷ xs) r)
+    ran-on : (f : Run) (n m : ℕ) → Ran e f (n + length (handedBy b)) (m + bit (b .answer .marks .loss)) (answersTo xs e) → Ran r f n m (answersTo (x ∷ xs) r)
     unfolding handedAll losses
     ran-on f n m t =
         let more : List Outcome = answersTo xs e in
         let p : n + length (handedBy b) + length (handedAll more) ≡ n + length (handedBy b ++ handedAll more) = omega (arith, length-append (handedBy b) (handedAll more)) in
-        let q : m + bit (b .answer .loss) + losses more ≡ m + (bit (b .answer .loss) + losses more) = add-assoc m (bit (b .answer .loss)) (losses more) in
+        let q : m + bit (b .answer .marks .loss) + losses more ≡ m + (bit (b .answer .marks .loss) + losses more) = add-assoc m (bit (b .answer .marks .loss)) (losses more) in
         rw answers-on
         (record {
           packets = t .packets ∙ ap capped p;
@@ -242,7 +242,7 @@ ran-all (x ∷ xs) r n m room w h ample p q =
     let k : Alike (a x xs r (fed x r)) (b x xs r (fed x r)) = calls-alike (r .listing .reader) (x .transport) (r .gathering) (x .output) blank (ample .0) blank-long in
     let d : Fed r (fed x r) (a x xs r (fed x r)) = piece-fed x r w (omega (arith, ample .1)) in
     ran-on x xs r (fed x r) k d (fedAll xs (fed x r)) n m
-    (ran-all xs (fed x r) (n + length (handedBy (b x xs r (fed x r)))) (m + bit (b x xs r (fed x r) .answer .loss)) room (d .within) (omega (arith, d .room)) (ample .2) (packets-on x xs r (fed x r) k d n p) (gaps-on x xs r (fed x r) k d m q))
+    (ran-all xs (fed x r) (n + length (handedBy (b x xs r (fed x r)))) (m + bit (b x xs r (fed x r) .answer .marks .loss)) room (d .within) (omega (arith, d .room)) (ample .2) (packets-on x xs r (fed x r) k d n p) (gaps-on x xs r (fed x r) k d m q))
 
 -- ---- the first line and the last
 

@@ -36,7 +36,7 @@ afterOf l a =
     record {
       reader = a .reader;
       packets = capped (l .packets + a .packets);
-      gaps = capped (l .gaps + bit (a .loss));
+      gaps = capped (l .gaps + bit (a .marks .loss));
     }
 
 -- ---- a step

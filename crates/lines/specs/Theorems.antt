@@ -26,7 +26,7 @@ handedAll (a ∷ more) = handedBy a ++ handedAll more
 
 unfoldable pub losses : List Outcome → ℕ
 losses [] = 0
-losses (a ∷ more) = bit (a .answer .loss) + losses more
+losses (a ∷ more) = bit (a .answer .marks .loss) + losses more
 
 -- the header, a line for each packet, and the totals
 unfoldable pub textOf : List Outcome → List ℕ

@@ -161,7 +161,8 @@ impl Listing {
     {
         let reader = call.reader;
         let packets = counted(self.packets, call.packets as u64);
-        let gaps = counted(self.gaps, mark(call.loss));
+        let marks = call.marks;
+        let gaps = counted(self.gaps, mark(marks.loss));
         Listing {
             reader,
             packets,

@@ -44,9 +44,9 @@ gatheredOf g =
       reader = readerOf (g .reader);
       bytes = g .bytes;
       packets = g .packets;
-      loss = bitOf (g .loss);
-      misfit = bitOf (g .misfit);
-      crc = bitOf (g .crc);
+      loss = bitOf (g .marks .loss);
+      misfit = bitOf (g .marks .misfit);
+      crc = bitOf (g .marks .crc);
     }
 
 -- an answer's numbers fit C's 32 bits: only a private function cites this

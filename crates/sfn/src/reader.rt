@@ -96,9 +96,10 @@ fn gathered_flat(g: Gathered) -> SfnGathered
     let reader = reader_flat(reader);
     let bytes = count_32(g.bytes);
     let packets = count_32(g.packets);
-    let loss = bit(g.loss);
-    let misfit = bit(g.misfit);
-    let crc = bit(g.crc);
+    let marks = g.marks;
+    let loss = bit(marks.loss);
+    let misfit = bit(marks.misfit);
+    let crc = bit(marks.crc);
     SfnGathered {
         refusal: g.refusal,
         reader,

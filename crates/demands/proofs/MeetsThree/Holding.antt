@@ -11,6 +11,7 @@ use borrow.Author.Tests.{lt-ltb, le-ltb, ne-eqb}
 use Rattle.packet.specs.Layout.{sizeOf}
 use Rattle.transport.specs.Tests.{pidOutside}
 use Rattle.gather.specs.State.{waitsOutOfStep, unfit, repeats}
+use Rattle.gather.specs.Marks.{lossAlone}
 use Rattle.gather.specs.Rules.{Hand, lost, outOfTurn, ruleOne}
 use Rattle.gather.specs.Gather.{Outcome, inHand}
 use Rattle.gather.specs.declared.Last.{Last}
@@ -35,7 +36,7 @@ HasAs never ok u h = (ok ≡ false) × Has false u h
 HasAs (since zero) ok u h = Has ok u h
 HasAs (since (suc g)) ok u h = ok ≡ false
 
-pub record Held (pid c : ℕ) (q : Since) (ok : Bool) (u : List ℕ) (s : Reader) (gathering : List ℕ) : Type 0 where
+pub record Tied (pid c : ℕ) (q : Since) (ok : Bool) (u : List ℕ) (s : Reader) (gathering : List ℕ) : Type 0 where
   pub own : s .pid ≡ pid
   pub fit : unfit s ≡ false
   pub room : 8202 ≤ length gathering
@@ -54,15 +55,13 @@ pub record Enters (q : Since) (ok : Bool) (u : List ℕ) (c : ℕ) (s : Reader) 
   pub new : repeats (s .last) c ≡ false
   pub has : Has ok u h
   pub packets : h .packets ≡ []
-  pub loss : h .loss ≡ lossAt q
-  pub misfit : h .misfit ≡ false
-  pub crc : h .crc ≡ false
+  pub marks : h .marks ≡ lossAlone (lossAt q)
 
 same : (q : Since) (ok : Bool) (u : List ℕ) (c : ℕ) (s : Reader) (g : List ℕ) → repeats (s .last) c ≡ false → lossAt q ≡ false → Has ok u (inHand s g)
     → ruleOne (s .last) c (inHand s g) ≡ inHand s g → Enters q ok u c s (ruleOne (s .last) c (inHand s g))
-same q ok u c s g n l x e = rw e (record { new = n; has = x; packets = refl; loss = sym l; misfit = refl; crc = refl })
+same q ok u c s g n l x e = rw e (record { new = n; has = x; packets = refl; marks = ap lossAlone (sym l) })
 
-pub enters : (q : Since) {ok : Bool} {u : List ℕ} {pid c : ℕ} {s : Reader} {g : List ℕ} → Held pid c q ok u s g → Near q → c < 16 → length (kept ok u) < sizeOf (kept ok u)
+pub enters : (q : Since) {ok : Bool} {u : List ℕ} {pid c : ℕ} {s : Reader} {g : List ℕ} → Tied pid c q ok u s g → Near q → c < 16 → length (kept ok u) < sizeOf (kept ok u)
     → Enters q ok u c s (ruleOne (s .last) c (inHand s g))
 enters never {ok} {u} {pid} {c} {s} {g} h n k short =
     let x : Has ok u (inHand s g) = rw (h .has .0) (h .has .1) in
@@ -80,17 +79,15 @@ enters (since (suc j)) {ok} {u} {pid} {c} {s} {g} h n k short =
       new = rw (h .last .1) (ne-eqb c m (λ e. omega (arith, h .last .2, h .last .3)));
       has = record { step = refl; waiting = refl };
       packets = refl;
-      loss = sym (lt-ltb 0 (suc j) (omega arith));
-      misfit = refl;
-      crc = refl;
+      marks = ap lossAlone (sym (lt-ltb 0 (suc j) (omega arith)));
     })
 
 -- ---- one is lost
 
-pub held-lost : (q : Since) {ok : Bool} {u : List ℕ} {pid c : ℕ} {s : Reader} {g : List ℕ} (v : List ℕ) → Held pid c q ok u s g → Held pid ((c + 1) % 16) (missed q) false v s g
-held-lost never v h =
+pub tied-lost : (q : Since) {ok : Bool} {u : List ℕ} {pid c : ℕ} {s : Reader} {g : List ℕ} (v : List ℕ) → Tied pid c q ok u s g → Tied pid ((c + 1) % 16) (missed q) false v s g
+tied-lost never v h =
     record { own = h .own; fit = h .fit; room = h .room; last = h .last; has = (refl, record { step = h .has .1 .step; waiting = h .has .1 .waiting }) }
-held-lost (since j) v h =
+tied-lost (since j) v h =
     record { own = h .own; fit = h .fit; room = h .room; last = (h .last .0, h .last .1, h .last .2, omega (arith, h .last .3)); has = refl }
 
 -- ---- one came
@@ -105,9 +102,9 @@ idle : (ok : Bool) (u : List ℕ) → waitsOutOfStep ok (length (kept ok u)) ≡
 idle true u = refl
 idle false u = refl
 
-pub held-came : {pid c : ℕ} {ok : Bool} {u : List ℕ} {o : Outcome} → Leaves pid c ok u o → pidOutside pid ≡ false → c < 16 → length (kept ok u) ≤ 8201
-    → Held pid ((c + 1) % 16) (since 0) ok u (o .answer .reader) (o .gathering)
-held-came {pid} {c} {ok} {u} x good k n =
+pub tied-came : {pid c : ℕ} {ok : Bool} {u : List ℕ} {o : Outcome} → Leaves pid c ok u o → pidOutside pid ≡ false → c < 16 → length (kept ok u) ≤ 8201
+    → Tied pid ((c + 1) % 16) (since 0) ok u (o .answer .reader) (o .gathering)
+tied-came {pid} {c} {ok} {u} x good k n =
     rw (x .next)
     (record {
       own = refl;

@@ -19,9 +19,11 @@ use Rattle.transport.proofs.LoadLaws.{Sound, Found, found}
 use Rattle.carry.specs.Carry.{numbered}
 use Rattle.carry.proofs.Flow.{Way, none, under, Flow, done, flow-way}
 use Rattle.carry.proofs.Theorems.{flow-sound, pid-small, length-numbered}
+use Rattle.gather.specs.Marks.{noMarks}
 use Rattle.gather.specs.State.{fresh, repeats}
 use Rattle.gather.specs.Gather.{Outcome, inHand, refusedOf, gatherOf}
 use Rattle.gather.specs.Rules.{ruleOne}
+use Rattle.gather.specs.declared.Marks.{Marks}
 use Rattle.gather.specs.declared.Reader.{Reader}
 use Rattle.gather.specs.declared.Started.{Started}
 use Rattle.gather.proofs.ReadingLaws.{whole-short}
@@ -33,7 +35,7 @@ use Rattle.demands.proofs.MeetsThree.Events.{Event, lost, came, again, 
 use Rattle.demands.proofs.MeetsThree.Due.{dueOf}
 use Rattle.demands.proofs.MeetsThree.Reading.{kept}
 use Rattle.demands.proofs.MeetsThree.Ahead.{Small, Ahead, ahead}
-use Rattle.demands.proofs.MeetsThree.Holding.{Held, Near, Enters, enters, held-lost, held-came}
+use Rattle.demands.proofs.MeetsThree.Holding.{Tied, Near, Enters, enters, tied-lost, tied-came}
 use Rattle.demands.proofs.MeetsThree.Taking.{Gives, takes, refuses, foreign-refused, again-refused}
 use Rattle.demands.proofs.MeetsThree.Batches.{allLoads, flow-all, batches-small, carry-all}
 
@@ -84,8 +86,7 @@ module _ (s : Reader) (t g : List ℕ) (outs : ℕ → List ℕ) (ts ps : List (
       rw e
       (record {
         handed = ap (λ (c : Cut). c .packets ++ handedOut (run ours s g on ts)) cut-nil ∙ x .handed;
-        marked = ap (λ (l : List Bool). false ∷ l) (x .marked);
-        fitting = (refl, refl, x .fitting);
+        marked = ap (λ (l : List Marks). noMarks ∷ l) (x .marked);
       })
 
   after-call : {pid c : ℕ} {loss ok : Bool} {u : List ℕ} (qs : List (List ℕ)) → Gives pid c qs loss ok u o
@@ -93,18 +94,17 @@ module _ (s : Reader) (t g : List ℕ) (outs : ℕ → List ℕ) (ts ps : List (
   after-call qs y x =
       record {
         handed = rw (y .handed, x .handed);
-        marked = rw (y .loss-is, x .marked);
-        fitting = (y .misfit, y .crc, x .fitting);
+        marked = rw (y .marks, x .marked);
       }
 
 -- ---- all calls
 
 journey : (es : List Event) (pid c : ℕ) (q : Since) (ok : Bool) (u r : List ℕ) (ps : List (List ℕ)) (ls : List Load)
     → pidOutside pid ≡ false → c < 16 → Flow u r ps ls → Small u r ps → Allowed pid q es → length (arrivals es) ≡ length ls
-    → (s : Reader) (g : List ℕ) → Held pid c q ok u s g → (prev : List ℕ) → Again q s prev → (outs : ℕ → List ℕ) → ((n : ℕ) → 8385 ≤ length (outs n))
+    → (s : Reader) (g : List ℕ) → Tied pid c q ok u s g → (prev : List ℕ) → Again q s prev → (outs : ℕ → List ℕ) → ((n : ℕ) → 8385 ≤ length (outs n))
     → Exactly (dueOf ok u r ps (byteCame (arrivals es) (numbered pid c ls))) (marks q es) (run ours s g outs (handedIn prev es (numbered pid c ls)))
 unfolding numbered
-journey [] pid c q ok u r ps [] good k w z a n s g h prev v outs o = record { handed = sym (due-nil ok w); marked = refl; fitting = tt }
+journey [] pid c q ok u r ps [] good k w z a n s g h prev v outs o = record { handed = sym (due-nil ok w); marked = refl }
 journey [] pid c q ok u r ps (l ∷ ls) good k w z a n s g h prev v outs o = absurd (omega arith)
 journey (lost ∷ es) pid c q ok u r ps [] good k w z a n s g h prev v outs o = absurd (omega arith)
 journey (lost ∷ es) pid c q ok u r ps (l ∷ ls) good k w z a n s g h prev v outs o =
@@ -112,7 +112,7 @@ journey (lost ∷ es) pid c q ok u r ps (l ∷ ls) good k w z a n s g h prev v o
     let f : Found pid c l = found pid c l (pid-small pid good) k (flow-sound w .0) in
     rw (f .carries, x .due-lost (byteCame (arrivals es) (numbered pid ((c + 1) % 16) ls)))
     (journey es pid ((c + 1) % 16) (missed q) false (x .gone) (x .left) (x .follow) ls good (omega arith) (x .flow) (x .small) a (omega arith) s g
-    (held-lost q (x .gone) h) prev (again-missed q s prev v) outs o)
+    (tied-lost q (x .gone) h) prev (again-missed q s prev v) outs o)
 journey (came ∷ es) pid c q ok u r ps [] good k w z a n s g h prev v outs o = absurd (omega arith)
 journey (came ∷ es) pid c q ok u r ps (l ∷ ls) good k w z a n s g h prev v outs o =
     let x : Ahead ok u r ps l ls = ahead ok w z in
@@ -127,7 +127,7 @@ journey (came ∷ es) pid c q ok u r ps (l ∷ ls) good k w z a n s g h prev v o
     (after-call s (transportOf pid c l) g outs (handedIn (transportOf pid c l) es (numbered pid ((c + 1) % 16) ls)) _ _ (x .hands) y
     (journey es pid ((c + 1) % 16) (since 0) (x .after) (x .gone) (x .left) (x .follow) ls good (omega arith) (x .flow) (x .small) (allowed-on pid q es a) (omega arith)
     (gatherOf s (transportOf pid c l) g (outs 0) .answer .reader) (gatherOf s (transportOf pid c l) g (outs 0) .gathering)
-    (held-came (y .leaves) good k (kept-few (x .after) (x .gone) (x .few))) (transportOf pid c l) last (λ (i : ℕ). outs (suc i)) (λ i. o (suc i))))
+    (tied-came (y .leaves) good k (kept-few (x .after) (x .gone) (x .few))) (transportOf pid c l) last (λ (i : ℕ). outs (suc i)) (λ i. o (suc i))))
 journey (again ∷ es) pid c never ok u r ps ls good k w z a n s g h prev v outs o = absurd a
 journey (again ∷ es) pid c (since j) ok u r ps ls good k w z a n s g h prev v outs o =
     after-refusal s prev g outs (handedIn prev es (numbered pid c ls)) _ _ _ (refuses s prev g (outs 0) (again-refused s prev g (outs 0) v))
@@ -136,8 +136,8 @@ journey (other t ∷ es) pid c q ok u r ps ls good k w z a n s g h prev v outs o
     after-refusal s t g outs (handedIn prev es (numbered pid c ls)) _ _ _ (refuses s t g (outs 0) (foreign-refused s t g (outs 0) (rw (h .own) (a .0))))
     (journey es pid c q ok u r ps ls good k w z (a .1) n s g h prev v (λ (i : ℕ). outs (suc i)) (λ i. o (suc i)))
 
-held-fresh : (pid c : ℕ) (g : List ℕ) → pidOutside pid ≡ false → 8202 ≤ length g → Held pid c never false [] (fresh pid) g
-held-fresh pid c g good h =
+tied-fresh : (pid c : ℕ) (g : List ℕ) → pidOutside pid ≡ false → 8202 ≤ length g → Tied pid c never false [] (fresh pid) g
+tied-fresh pid c g good h =
     record { own = refl; fit = fresh-fit pid good; room = h; last = refl; has = (refl, record { step = refl; waiting = refl }) }
 
 pub by-events : ByEvents ours
@@ -147,4 +147,4 @@ by-events pid count good k batches f es a n g b outs o =
     rw (e, st)
     (journey es pid count never false [] [] (packetsOf batches) (allLoads batches) good k (flow-all batches f)
     (record { under-way = omega arith; follow = batches-small batches f }) a (n ∙ ap length e ∙ length-numbered pid count (allLoads batches)) (fresh pid) g
-    (held-fresh pid count g good b) [] tt outs o)
+    (tied-fresh pid count g good b) [] tt outs o)

@@ -17,7 +17,7 @@ use Rattle.carry.proofs.Flow.{Way, none, under}
 use Rattle.gather.specs.Rules as rules
 use Rattle.gather.specs.Rules.{Brought, broughtBy, Hand, waits, handsOut, upToStart, unfinished, rulesOn}
 use Rattle.gather.proofs.JoinLaws.{passes, strays-in}
-use Rattle.gather.proofs.ReadingLaws.{plainly, starting, brought-plain, brought-start, follows-joined, plain-out, plain-on, plain-end, stage-end}
+use Rattle.gather.proofs.ReadingLaws.{plainly, starting, brought-plain, brought-start, from-start-joined, plain-out, plain-on, plain-end, stage-end}
 use Rattle.demands.proofs.MeetsThree.Due.{lastOf, last-under}
 
 -- ---- what it has in hand
@@ -34,9 +34,7 @@ pub record Has (ok : Bool) (u : List ℕ) (h : Hand) : Type 0 where
 pub record Reads (ps : List (List ℕ)) (ok : Bool) (u : List ℕ) (h k : Hand) : Type 0 where
   pub packets : k .packets ≡ h .packets ++ ps
   pub has : Has ok u k
-  pub loss : k .loss ≡ h .loss
-  pub misfit : k .misfit ≡ h .misfit
-  pub crc : k .crc ≡ h .crc
+  pub marks : k .marks ≡ h .marks
 
 some : (u : List ℕ) → 0 < length u → rules.none u ≡ false
 some [] h = absurd (omega arith)
@@ -59,7 +57,7 @@ module _ (count : ℕ) (h : Hand) where
   pub reads-out : (u v d : List ℕ) → Has false u h → Reads [] false v h (rulesOn (brings count (plain d)) h)
   reads-out u v d x =
       rw (plain-out count h d (x .step))
-      (record { packets = sym (append-nil (h .packets)); has = record { step = x .step; waiting = x .waiting }; loss = refl; misfit = refl; crc = refl })
+      (record { packets = sym (append-nil (h .packets)); has = record { step = x .step; waiting = x .waiting }; marks = refl })
 
   module _ (u : List ℕ) (x : Has true u h) (a : 0 < length u) where
     waiting-some : rules.none (h .waiting) ≡ false
@@ -71,9 +69,7 @@ module _ (count : ℕ) (h : Hand) where
         (record {
           packets = sym (append-nil (h .packets));
           has = record { step = refl; waiting = ap (λ (l : List ℕ). l ++ d) (x .waiting) };
-          loss = refl;
-          misfit = refl;
-          crc = refl;
+          marks = refl;
         })
 
     pub reads-end : (d : List ℕ) → Whole (u ++ d) → Reads ((u ++ d) ∷ []) true [] h (rulesOn (brings count (plain d)) h)
@@ -82,9 +78,7 @@ module _ (count : ℕ) (h : Hand) where
         (record {
           packets = ap (λ (l : List ℕ). h .packets ++ ((l ++ d) ∷ [])) (x .waiting);
           has = record { step = x .step; waiting = refl };
-          loss = refl;
-          misfit = refl;
-          crc = refl;
+          marks = refl;
         })
 
 -- ---- with a start
@@ -92,12 +86,10 @@ module _ (count : ℕ) (h : Hand) where
 -- at the start, r before it is the rest of the packet under way, which is handed out where all of it came
 record Opens (ok : Bool) (u r : List ℕ) (h k : Hand) : Type 0 where
   packets : k .packets ≡ h .packets ++ lastOf ok u r
-  loss : k .loss ≡ h .loss
-  misfit : k .misfit ≡ h .misfit
-  crc : k .crc ≡ h .crc
+  marks : k .marks ≡ h .marks
 
 unchanged : (ok : Bool) (u r : List ℕ) (h : Hand) → lastOf ok u r ≡ [] → Opens ok u r h h
-unchanged ok u r h e = record { packets = rw e (sym (append-nil (h .packets))); loss = refl; misfit = refl; crc = refl }
+unchanged ok u r h e = record { packets = rw e (sym (append-nil (h .packets))); marks = refl }
 
 empty-finished : (h : Hand) → h .waiting ≡ [] → unfinished h ≡ h
 empty-finished h z = rw z
@@ -107,7 +99,7 @@ opens true h none x = rw (strays-in [] h (x .step) (x .waiting), empty-finished 
 opens false h none x = rw (passes [] h (x .step), empty-finished h (x .waiting)) (unchanged false [] [] h refl)
 opens true h (under {u} {r} a b w) x =
     rw (stage-end 0 h (x .step) (waiting-some 0 h u x a) r (rw (x .waiting) w))
-    (record { packets = rw (last-under true u r b, x .waiting); loss = refl; misfit = refl; crc = refl })
+    (record { packets = rw (last-under true u r b, x .waiting); marks = refl })
 opens false h (under {u} {r} a b w) x = rw (passes r h (x .step), empty-finished h (x .waiting)) (unchanged false u r h (last-under false u r b))
 
 pub reads-start : (count : ℕ) (h : Hand) (ok : Bool) (u r : List ℕ) (qs : List (List ℕ)) (v : List ℕ) → Way u r → Has ok u h → AllWhole qs → length v < sizeOf v
@@ -115,11 +107,9 @@ pub reads-start : (count : ℕ) (h : Hand) (ok : Bool) (u r : List ℕ) (qs : Li
 unfolding rulesOn
 reads-start count h ok u r qs v w x f short =
     let o : Opens ok u r h (unfinished (upToStart r h)) = opens ok h w x in
-    rw (take-append-seam r (joined qs ++ v), drop-append-seam r (joined qs ++ v), follows-joined qs v (unfinished (upToStart r h)) f short)
+    rw (take-append-seam r (joined qs ++ v), drop-append-seam r (joined qs ++ v), from-start-joined qs v (unfinished (upToStart r h)) f short)
     (record {
       packets = ap (λ (l : List (List ℕ)). l ++ qs) (o .packets) ∙ append-assoc (h .packets) (lastOf ok u r) qs;
       has = record { step = refl; waiting = refl };
-      loss = o .loss;
-      misfit = o .misfit;
-      crc = o .crc;
+      marks = o .marks;
     })

@@ -16,6 +16,7 @@ use Rattle.transport.specs.Load.{Load, plain, start, transportOf}
 use Rattle.transport.proofs.LoadLaws.{Sound, transport-length, Found, found}
 use Rattle.carry.proofs.Theorems.{pid-small}
 use Rattle.gather.specs.State.{repeats, gatherChecks}
+use Rattle.gather.specs.Marks.{lossAlone}
 use Rattle.gather.specs.Rules.{Brought, broughtBy, Hand, ruleOne, rulesOn}
 use Rattle.gather.specs.Gather.{Outcome, inHand, refusedOf, resultOf, takenOf, gatherOf}
 use Rattle.gather.specs.declared.Last.the-variants.{Count}
@@ -29,16 +30,14 @@ use Rattle.demands.specs.Route.{Foreign}
 use Rattle.demands.specs.Demand3.{toldBy, handedBy}
 use Rattle.demands.proofs.MeetsThree.Events.{Since, lossAt}
 use Rattle.demands.proofs.MeetsThree.Reading.{kept, Has, Reads, brings, brought}
-use Rattle.demands.proofs.MeetsThree.Holding.{Held, Enters, Leaves}
+use Rattle.demands.proofs.MeetsThree.Holding.{Tied, Enters, Leaves}
 
 -- ---- what a call gives
 
 pub record Gives (pid c : ℕ) (ps : List (List ℕ)) (loss ok : Bool) (u : List ℕ) (o : Outcome) : Type 0 where
   pub leaves : Leaves pid c ok u o
   pub handed : handedBy (toldBy o) ≡ ps
-  pub loss-is : o .answer .loss ≡ loss
-  pub misfit : o .answer .misfit ≡ false
-  pub crc : o .answer .crc ≡ false
+  pub marks : o .answer .marks ≡ lossAlone loss
 
 module _ (s : Reader) (t g o : List ℕ) (pid c : ℕ) (own : s .pid ≡ pid) (count : broughtBy t .count ≡ c) (room : 8202 ≤ length g) where
   abbrev h : Hand
@@ -53,9 +52,7 @@ module _ (s : Reader) (t g o : List ℕ) (pid c : ℕ) (own : s .pid ≡ pid) (c
     reader = record { pid = s .pid; last = Count (broughtBy t .count); «in_step» = h .step; waiting = length (h .waiting) };
     bytes = a .bytes;
     packets = a .packets;
-    loss = h .loss;
-    misfit = h .misfit;
-    crc = h .crc;
+    marks = h .marks;
   })
   unfolding takenOf
   told f = refl
@@ -76,15 +73,13 @@ module _ (s : Reader) (t g o : List ℕ) (pid c : ℕ) (own : s .pid ≡ pid) (c
         holds = ap (λ (y : Reader). take (y .waiting) (takenOf s t g o .gathering)) (sym (next-state ok u x)) ∙ taken-holds s t g o ∙ x .waiting;
       }
 
-  gives : (ps : List (List ℕ)) (loss ok : Bool) (u : List ℕ) → Has ok u h → h .packets ≡ ps → h .loss ≡ loss → h .misfit ≡ false → h .crc ≡ false
+  gives : (ps : List (List ℕ)) (loss ok : Bool) (u : List ℕ) → Has ok u h → h .packets ≡ ps → h .marks ≡ lossAlone loss
       → Gives pid c ps loss ok u (takenOf s t g o)
-  gives ps loss ok u x p l m k =
+  gives ps loss ok u x p m =
       record {
         leaves = leaves-so ok u x;
         handed = taken-cut s t g o ∙ p;
-        loss-is = told (λ (y : Gathered). y .loss) ∙ l;
-        misfit = told (λ (y : Gathered). y .misfit) ∙ m;
-        crc = told (λ (y : Gathered). y .crc) ∙ k;
+        marks = told (λ (y : Gathered). y .marks) ∙ m;
       }
 
 -- ---- a transport packet of the writer's
@@ -100,7 +95,7 @@ module _ (pid c : ℕ) (l : Load) (good : pidOutside pid ≡ false) (k : c < 16)
   has-count : broughtBy t .count ≡ c
   has-count = ap (λ (b : Brought). b .count) (brought pid c l (pid-small pid good) k sound) ∙ brings-count c l
 
-  pub takes : (q : Since) (ok : Bool) (u : List ℕ) (s : Reader) (g o : List ℕ) → Held pid c q ok u s g → 8385 ≤ length o
+  pub takes : (q : Since) (ok : Bool) (u : List ℕ) (s : Reader) (g o : List ℕ) → Tied pid c q ok u s g → 8385 ≤ length o
       → Enters q ok u c s (ruleOne (s .last) c (inHand s g))
       → (ps : List (List ℕ)) (after : Bool) (gone : List ℕ) → ((h : Hand) → Has ok u h → Reads ps after gone h (rulesOn (brings c l) h))
       → Gives pid c ps (lossAt q) after gone (gatherOf s t g o)
@@ -117,7 +112,7 @@ module _ (pid c : ℕ) (l : Load) (good : pidOutside pid ≡ false) (k : c < 16)
       let r : Reads ps after gone h (resultOf s t g) = rw is (reads h (e .has)) in
       rw (gather-taken s t g o n)
       (gives s t g o pid c (x .own) has-count (x .room) ps (lossAt q) after gone (r .has)
-      (r .packets ∙ ap (λ (y : List (List ℕ)). y ++ ps) (e .packets)) (r .loss ∙ e .loss) (r .misfit ∙ e .misfit) (r .crc ∙ e .crc))
+      (r .packets ∙ ap (λ (y : List (List ℕ)). y ++ ps) (e .packets)) (r .marks ∙ e .marks))
 
 -- ---- refused
 

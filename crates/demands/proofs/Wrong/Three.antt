@@ -22,9 +22,11 @@ use Rattle.transport.specs.Load.{plain, headBytes, transportOf}
 use Rattle.carry.specs.Loads.{goneOf, loadsBy, loadsOf}
 use Rattle.carry.specs.Carry.{numbered, carryChecks, carryOf, Outcome}
 use Rattle.gather.specs.State.{startOf, unfit, gatherChecks}
-use Rattle.gather.specs.Rules.{broughtBy, ruleOne, joining, upToStart, follows, rulesOn}
+use Rattle.gather.specs.Marks.{noMarks}
+use Rattle.gather.specs.Rules.{broughtBy, ruleOne, joining, upToStart, fromStart, rulesOn}
 use Rattle.gather.specs.Gather as gathering
 use Rattle.gather.specs.Gather.{joiners, takenOf, gatherOf, refusedOf}
+use Rattle.gather.specs.declared.Marks.{Marks}
 use Rattle.gather.specs.declared.Last.{Last}
 use Rattle.gather.specs.declared.Last.the-variants.{Nothing, Count}
 use Rattle.gather.specs.declared.Reader.{Reader}
@@ -70,7 +72,7 @@ abbrev pub refusesAll : Reader → List ℕ → List ℕ → List ℕ → gather
 refusesAll s t g o = refusedOf s g o 38
 
 pub refuses-everything : Demand3 (gatheredBy refusesAll) → ⊥
-unfolding gatherOf takenOf gatherChecks transportChecks unfit pidOutside fieldLong pointerBeyond transport.headerField transport.payloadAt transport.carriedAt transport.carriedBy broughtBy ruleOne joining upToStart follows rulesOn joiners judgeOf cutBy cut joined sizeOf crc.crcHolds crc.crcOf crc.run crc.feed crc.bitAt crc.shift overlay answer pack unpack number bytes batchFault numbered carryChecks carryOf loadsOf loadsBy goneOf headBytes transportOf startOf transportsIn
+unfolding gatherOf takenOf gatherChecks transportChecks unfit pidOutside fieldLong pointerBeyond transport.headerField transport.payloadAt transport.carriedAt transport.carriedBy broughtBy ruleOne joining upToStart fromStart rulesOn joiners judgeOf cutBy cut joined sizeOf crc.crcHolds crc.crcOf crc.run crc.feed crc.bitAt crc.shift overlay answer pack unpack number bytes batchFault numbered carryChecks carryOf loadsOf loadsBy goneOf headBytes transportOf startOf transportsIn
 refuses-everything d =
     let m = journey (gatheredBy refusesAll) d (one ∷ []) (good, tt) (writers 0 ∷ []) (omega arith, tt) in
     let z : _≡_ {A = ℕ} 0 1 = ap length (m .handed) in omega arith
@@ -80,13 +82,13 @@ refuses-everything d =
 abbrev pub onePacket : Reader → List ℕ → List ℕ → List ℕ → gathering.Outcome
 onePacket s t g o =
     record {
-      answer = record { refusal = 0; reader = s; bytes = 10; packets = 1; loss = false; misfit = false; crc = false };
+      answer = record { refusal = 0; reader = s; bytes = 10; packets = 1; marks = noMarks };
       gathering = g;
       output = overlay 0 five o;
     }
 
 pub returns-one : Demand3 (gatheredBy onePacket) → ⊥
-unfolding gatherOf takenOf gatherChecks transportChecks unfit pidOutside fieldLong pointerBeyond transport.headerField transport.payloadAt transport.carriedAt transport.carriedBy broughtBy ruleOne joining upToStart follows rulesOn joiners judgeOf cutBy cut joined sizeOf crc.crcHolds crc.crcOf crc.run crc.feed crc.bitAt crc.shift overlay answer pack unpack number bytes batchFault numbered carryChecks carryOf loadsOf loadsBy goneOf headBytes transportOf startOf transportsIn
+unfolding gatherOf takenOf gatherChecks transportChecks unfit pidOutside fieldLong pointerBeyond transport.headerField transport.payloadAt transport.carriedAt transport.carriedBy broughtBy ruleOne joining upToStart fromStart rulesOn joiners judgeOf cutBy cut joined sizeOf crc.crcHolds crc.crcOf crc.run crc.feed crc.bitAt crc.shift overlay answer pack unpack number bytes batchFault numbered carryChecks carryOf loadsOf loadsBy goneOf headBytes transportOf startOf transportsIn
 returns-one d =
     let m = journey (gatheredBy onePacket) d (one ∷ []) (good, tt) (writers 0 ∷ again 0 ∷ []) (omega arith, (refl, tt)) in
     let z : _≡_ {A = ℕ} 2 1 = ap length (m .handed) in omega arith
@@ -97,7 +99,7 @@ abbrev pub silent : Reader → List ℕ → List ℕ → List ℕ → gathering.
 silent s t g o = let x = gatherOf s t g o in record { answer = x .answer; gathering = x .gathering; output = o }
 
 pub writes-nothing : Demand3 (gatheredBy silent) → ⊥
-unfolding gatherOf takenOf gatherChecks transportChecks unfit pidOutside fieldLong pointerBeyond transport.headerField transport.payloadAt transport.carriedAt transport.carriedBy broughtBy ruleOne joining upToStart follows rulesOn joiners judgeOf cutBy cut joined sizeOf crc.crcHolds crc.crcOf crc.run crc.feed crc.bitAt crc.shift overlay answer pack unpack number bytes batchFault numbered carryChecks carryOf loadsOf loadsBy goneOf headBytes transportOf startOf transportsIn
+unfolding gatherOf takenOf gatherChecks transportChecks unfit pidOutside fieldLong pointerBeyond transport.headerField transport.payloadAt transport.carriedAt transport.carriedBy broughtBy ruleOne joining upToStart fromStart rulesOn joiners judgeOf cutBy cut joined sizeOf crc.crcHolds crc.crcOf crc.run crc.feed crc.bitAt crc.shift overlay answer pack unpack number bytes batchFault numbered carryChecks carryOf loadsOf loadsBy goneOf headBytes transportOf startOf transportsIn
 writes-nothing d =
     let m = journey (gatheredBy silent) d (one ∷ []) (good, tt) (writers 0 ∷ []) (omega arith, tt) in
     let z : _≡_ {A = ℕ} 0 1 = ap length (m .handed) in omega arith
@@ -113,9 +115,7 @@ firstOnly (Count n) s t g o =
         reader = record { pid = s .pid; last = Count (transport.countOf t); «in_step» = s .«in_step»; waiting = s .waiting };
         bytes = 0;
         packets = 0;
-        loss = false;
-        misfit = false;
-        crc = false;
+        marks = noMarks;
       };
       gathering = g;
       output = o;
@@ -128,7 +128,7 @@ abbrev two : List Batch
 two = one ∷ one ∷ []
 
 pub gathers-once : Demand3 (gatheredBy gathersOnce) → ⊥
-unfolding gatherOf takenOf gatherChecks transportChecks unfit pidOutside fieldLong pointerBeyond transport.headerField transport.payloadAt transport.carriedAt transport.carriedBy broughtBy ruleOne joining upToStart follows rulesOn joiners judgeOf cutBy cut joined sizeOf crc.crcHolds crc.crcOf crc.run crc.feed crc.bitAt crc.shift overlay answer pack unpack number bytes batchFault numbered carryChecks carryOf loadsOf loadsBy goneOf headBytes transportOf startOf transportsIn
+unfolding gatherOf takenOf gatherChecks transportChecks unfit pidOutside fieldLong pointerBeyond transport.headerField transport.payloadAt transport.carriedAt transport.carriedBy broughtBy ruleOne joining upToStart fromStart rulesOn joiners judgeOf cutBy cut joined sizeOf crc.crcHolds crc.crcOf crc.run crc.feed crc.bitAt crc.shift overlay answer pack unpack number bytes batchFault numbered carryChecks carryOf loadsOf loadsBy goneOf headBytes transportOf startOf transportsIn
 gathers-once d =
     let m = journey (gatheredBy gathersOnce) d two (good, (good, tt)) (writers 0 ∷ writers 1 ∷ []) (omega arith, (omega arith, omega arith, omega arith, tt)) in
     let z : _≡_ {A = ℕ} 1 2 = ap length (m .handed) in omega arith
@@ -139,7 +139,7 @@ abbrev pub fromSeven : ℕ → ℕ → List ℕ → List ℕ → Outcome
 fromSeven pid count batch out = carryOf pid 7 batch out
 
 pub invents-counts : Demand3 (carriedBy fromSeven) → ⊥
-unfolding gatherOf takenOf gatherChecks transportChecks unfit pidOutside fieldLong pointerBeyond transport.headerField transport.payloadAt transport.carriedAt transport.carriedBy broughtBy ruleOne joining upToStart follows rulesOn joiners judgeOf cutBy cut joined sizeOf crc.crcHolds crc.crcOf crc.run crc.feed crc.bitAt crc.shift overlay answer pack unpack number bytes batchFault numbered carryChecks carryOf loadsOf loadsBy goneOf headBytes transportOf startOf transportsIn
+unfolding gatherOf takenOf gatherChecks transportChecks unfit pidOutside fieldLong pointerBeyond transport.headerField transport.payloadAt transport.carriedAt transport.carriedBy broughtBy ruleOne joining upToStart fromStart rulesOn joiners judgeOf cutBy cut joined sizeOf crc.crcHolds crc.crcOf crc.run crc.feed crc.bitAt crc.shift overlay answer pack unpack number bytes batchFault numbered carryChecks carryOf loadsOf loadsBy goneOf headBytes transportOf startOf transportsIn
 invents-counts d =
     let m = journey (carriedBy fromSeven) d two (good, (good, tt)) (writers 0 ∷ writers 1 ∷ []) (omega arith, (omega arith, omega arith, omega arith, tt)) in
     let z : _≡_ {A = ℕ} 1 2 = ap length (m .handed) in omega arith
@@ -150,7 +150,7 @@ abbrev pub deaf : Reader → List ℕ → List ℕ → List ℕ → gathering.Ou
 deaf s t g o = gatherOf (record { pid = s .pid; last = Nothing; «in_step» = s .«in_step»; waiting = s .waiting }) t g o
 
 pub hands-out-again : Demand3 (gatheredBy deaf) → ⊥
-unfolding gatherOf takenOf gatherChecks transportChecks unfit pidOutside fieldLong pointerBeyond transport.headerField transport.payloadAt transport.carriedAt transport.carriedBy broughtBy ruleOne joining upToStart follows rulesOn joiners judgeOf cutBy cut joined sizeOf crc.crcHolds crc.crcOf crc.run crc.feed crc.bitAt crc.shift overlay answer pack unpack number bytes batchFault numbered carryChecks carryOf loadsOf loadsBy goneOf headBytes transportOf startOf transportsIn
+unfolding gatherOf takenOf gatherChecks transportChecks unfit pidOutside fieldLong pointerBeyond transport.headerField transport.payloadAt transport.carriedAt transport.carriedBy broughtBy ruleOne joining upToStart fromStart rulesOn joiners judgeOf cutBy cut joined sizeOf crc.crcHolds crc.crcOf crc.run crc.feed crc.bitAt crc.shift overlay answer pack unpack number bytes batchFault numbered carryChecks carryOf loadsOf loadsBy goneOf headBytes transportOf startOf transportsIn
 hands-out-again d =
     let m = journey (gatheredBy deaf) d (one ∷ []) (good, tt) (writers 0 ∷ again 0 ∷ []) (omega arith, (refl, tt)) in
     let z : _≡_ {A = ℕ} 2 1 = ap length (m .handed) in omega arith
@@ -166,25 +166,23 @@ marking loss s t g o =
         reader = x .answer .reader;
         bytes = x .answer .bytes;
         packets = x .answer .packets;
-        loss = loss;
-        misfit = x .answer .misfit;
-        crc = x .answer .crc;
+        marks = record { loss = loss; misfit = x .answer .marks .misfit; crc = x .answer .marks .crc };
       };
       gathering = x .gathering;
       output = x .output;
     }
 
 pub marks-none : Demand3 (gatheredBy (marking false)) → ⊥
-unfolding gatherOf takenOf gatherChecks transportChecks unfit pidOutside fieldLong pointerBeyond transport.headerField transport.payloadAt transport.carriedAt transport.carriedBy broughtBy ruleOne joining upToStart follows rulesOn joiners judgeOf cutBy cut joined sizeOf crc.crcHolds crc.crcOf crc.run crc.feed crc.bitAt crc.shift overlay answer pack unpack number bytes batchFault numbered carryChecks carryOf loadsOf loadsBy goneOf headBytes transportOf startOf transportsIn
+unfolding gatherOf takenOf gatherChecks transportChecks unfit pidOutside fieldLong pointerBeyond transport.headerField transport.payloadAt transport.carriedAt transport.carriedBy broughtBy ruleOne joining upToStart fromStart rulesOn joiners judgeOf cutBy cut joined sizeOf crc.crcHolds crc.crcOf crc.run crc.feed crc.bitAt crc.shift overlay answer pack unpack number bytes batchFault numbered carryChecks carryOf loadsOf loadsBy goneOf headBytes transportOf startOf transportsIn
 marks-none d =
     let m = journey (gatheredBy (marking false)) d (one ∷ two) (good, (good, (good, tt))) (writers 0 ∷ writers 2 ∷ []) (omega arith, (omega arith, omega arith, omega arith, tt)) in
-    true≢false (sym (ap (λ (l : List Bool). getD l 1 false) (m .marked)))
+    true≢false (sym (ap (λ (l : List Marks). getD l 1 noMarks .loss) (m .marked)))
 
 pub marks-all : Demand3 (gatheredBy (marking true)) → ⊥
-unfolding gatherOf takenOf gatherChecks transportChecks unfit pidOutside fieldLong pointerBeyond transport.headerField transport.payloadAt transport.carriedAt transport.carriedBy broughtBy ruleOne joining upToStart follows rulesOn joiners judgeOf cutBy cut joined sizeOf crc.crcHolds crc.crcOf crc.run crc.feed crc.bitAt crc.shift overlay answer pack unpack number bytes batchFault numbered carryChecks carryOf loadsOf loadsBy goneOf headBytes transportOf startOf transportsIn
+unfolding gatherOf takenOf gatherChecks transportChecks unfit pidOutside fieldLong pointerBeyond transport.headerField transport.payloadAt transport.carriedAt transport.carriedBy broughtBy ruleOne joining upToStart fromStart rulesOn joiners judgeOf cutBy cut joined sizeOf crc.crcHolds crc.crcOf crc.run crc.feed crc.bitAt crc.shift overlay answer pack unpack number bytes batchFault numbered carryChecks carryOf loadsOf loadsBy goneOf headBytes transportOf startOf transportsIn
 marks-all d =
     let m = journey (gatheredBy (marking true)) d (one ∷ []) (good, tt) (writers 0 ∷ []) (omega arith, tt) in
-    true≢false (ap (λ (l : List Bool). getD l 0 false) (m .marked))
+    true≢false (ap (λ (l : List Marks). getD l 0 noMarks .loss) (m .marked))
 
 -- ---- Harbour: two halves joined across fifteen lost transport packets, and the CRC not looked at
 
@@ -200,9 +198,7 @@ skipsCrc s t g o =
         reader = record { pid = s .pid; last = Count (transport.countOf t); «in_step» = true; waiting = 0 };
         bytes = length packet;
         packets = 1;
-        loss = false;
-        misfit = false;
-        crc = false;
+        marks = noMarks;
       };
       gathering = g;
       output = overlay 0 packet o;
@@ -210,7 +206,7 @@ skipsCrc s t g o =
 
 -- six bytes of a packet of ten wait, and the last four of another come
 pub joins-halves : Demand3 (gatheredBy skipsCrc) → ⊥
-unfolding gatherOf takenOf gatherChecks transportChecks unfit pidOutside fieldLong pointerBeyond transport.headerField transport.payloadAt transport.carriedAt transport.carriedBy broughtBy ruleOne joining upToStart follows rulesOn joiners judgeOf cutBy cut joined sizeOf crc.crcHolds crc.crcOf crc.run crc.feed crc.bitAt crc.shift overlay answer pack unpack number bytes batchFault numbered carryChecks carryOf loadsOf loadsBy goneOf headBytes transportOf startOf transportsIn
+unfolding gatherOf takenOf gatherChecks transportChecks unfit pidOutside fieldLong pointerBeyond transport.headerField transport.payloadAt transport.carriedAt transport.carriedBy broughtBy ruleOne joining upToStart fromStart rulesOn joiners judgeOf cutBy cut joined sizeOf crc.crcHolds crc.crcOf crc.run crc.feed crc.bitAt crc.shift overlay answer pack unpack number bytes batchFault numbered carryChecks carryOf loadsOf loadsBy goneOf headBytes transportOf startOf transportsIn
 joins-halves d =
     let m = d .clean (record { pid = 256; last = Count 0; «in_step» = true; waiting = 6 }) (transportOf 256 1 (plain (1 ∷ 2 ∷ 3 ∷ 4 ∷ []))) (take 6 five) [] in
     let z : _≡_ {A = ℕ} 1 0 = m .number in omega arith

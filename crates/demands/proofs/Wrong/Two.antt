@@ -47,7 +47,8 @@ use Rattle.transport.specs.Tests.{pidOutside}
 use Rattle.carry.specs.Loads.{goneOf, loadsBy, loadsOf}
 use Rattle.carry.specs.Carry as carrying
 use Rattle.gather.specs.State.{fresh, noReader}
-use Rattle.gather.specs.Rules.{broughtBy, ruleOne, upToStart, follows, rulesOn}
+use Rattle.gather.specs.Marks.{noMarks}
+use Rattle.gather.specs.Rules.{broughtBy, ruleOne, upToStart, fromStart, rulesOn}
 use Rattle.gather.specs.Gather as gathering
 use Rattle.gather.specs.declared.Reader.{Reader}
 use Rattle.gather.specs.declared.Started.{Started}
@@ -142,7 +143,7 @@ abbrev hands-five : Reader → List ℕ → List ℕ → List ℕ → gathering.
 hands-five s t buffer out =
     let o = ours .gather s t buffer out in
     record {
-      answer = record { refusal = 0; reader = o .answer .reader; bytes = 10; packets = 1; loss = false; misfit = false; crc = false };
+      answer = record { refusal = 0; reader = o .answer .reader; bytes = 10; packets = 1; marks = noMarks };
       gathering = o .gathering;
       output = overlay 0 five out;
     }
@@ -172,7 +173,7 @@ abbrev unlaid : Reader → List ℕ → List ℕ → List ℕ → gathering.Outc
 unlaid s t buffer out = let o = ours .gather s t buffer out in record { answer = o .answer; gathering = buffer; output = out }
 
 pub hands-out-nothing : Demand2 (gatheredBy unlaid) → ⊥
-unfolding gathering.takenOf broughtBy ruleOne upToStart follows rulesOn headerField payloadAt carriedAt carriedBytes cut cutBy joined crcHolds crcOf run feed bitAt shift sizeOf transportOf headBytes number bytes pack unpack overlay
+unfolding gathering.takenOf broughtBy ruleOne upToStart fromStart rulesOn headerField payloadAt carriedAt carriedBytes cut cutBy joined crcHolds crcOf run feed bitAt shift sizeOf transportOf headBytes number bytes pack unpack overlay
 hands-out-nothing d =
     let z : _≡_ {A = ℕ} 9 5 = ap (λ (o : gathering.Outcome). getD (o .output) 1 0) (d .carriage .gathers (fresh 0x1000) carrier buffer space good-carrier) in
     omega arith

@@ -15,6 +15,7 @@ use Rattle.transport.proofs.LookLaws.{look-taken}
 use Rattle.gather.specs.Rules.{ruleOne}
 use Rattle.gather.specs.Gather.{inHand}
 use Rattle.gather.specs.Phases.{numbers}
+use Rattle.gather.specs.declared.Marks.{Marks}
 use Rattle.gather.proofs.RefusalLaws.{Passed, passed, fit-parts, payload-from, payload-in, start-in}
 use Rattle.gather.proofs.EnterLaws.{Stands, rule-stands}
 use Rattle.gather.proofs.GatherLaws.{gather-refused, gather-taken, taken-start, taken-plain}
@@ -79,10 +80,15 @@ look-requires c κs = search needs
 refusal-requires : tie.Need-refusal-requires
 refusal-requires c κs = c .look .ensures
 
+none-requires : tie.Need-none-requires
+none-requires c κs = search needs
+
 returns : tie.Need-returns
 returns c =
-    let s = c .before .before .before .before .before .before in
-    gather-refused (s .args .self) (now (s .args .transport)) (now (s .args .gathering)) (now (s .args .output)) _ (c .before .refusal .ensures) (c .if1 .taken)
+    let f = c .before .before in
+    let a = f .before .before .before .before .before .args in
+    ap (λ (m : Marks). record { answer = record { refusal = f .refusal .result; reader = a .self; bytes = 0; packets = 0; marks = m }; gathering = now (a .gathering); output = now (a .output) }) (c .none .ensures)
+    ∙ gather-refused (a .self) (now (a .transport)) (now (a .gathering)) (now (a .output)) _ (f .refusal .ensures) (c .before .if1 .taken)
 
 enter-requires : tie.Need-enter-requires
 enter-requires c κs = omega (arith, few (c .before), free (c .before) .roomy)
@@ -152,6 +158,7 @@ gather-spec =
     (tie.spec
     look-requires
     refusal-requires
+    none-requires
     returns
     enter-requires
     cast-before

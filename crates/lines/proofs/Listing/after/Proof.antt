@@ -18,9 +18,9 @@ counted-requires-2 c κs = search needs
 
 returns : tie.Need-returns
 returns c =
-    let a = c .before .before .before .before .args in
+    let a = c .before .before .before .before .before .args in
     let g = c .counted2 .ensures ∙ ap (λ (n : ℕ). capped (a .self .gaps + n)) (c .before .mark .ensures) in
-    λ i. record { reader = a .call .reader; packets = c .before .before .counted .ensures i; gaps = g i }
+    λ i. record { reader = a .call .reader; packets = c .before .before .before .counted .ensures i; gaps = g i }
 
 pub after-spec : {M : Type 1} → statement M
 after-spec = tie.close (tie.spec counted-requires mark-requires counted-requires-2 returns)

@@ -24,12 +24,12 @@ bit-requires-3 c κs = search needs
 
 returns : tie.Need-returns
 returns c =
-    let k = c .before .before .before .before .before in
+    let k = c .before .before .before .before .before .before in
     λ i. record {
       refusal = k .before .before .args .g .refusal;
       reader = k .reader-flat .ensures i;
-      bytes = c .before .before .before .before .count-32 .ensures i;
-      packets = c .before .before .before .count-322 .ensures i;
+      bytes = c .before .before .before .before .before .count-32 .ensures i;
+      packets = c .before .before .before .before .count-322 .ensures i;
       loss = c .before .before .bit .ensures i;
       misfit = c .before .bit2 .ensures i;
       crc = c .bit3 .ensures i;

@@ -1,9 +1,9 @@
--- `gather::Held::unfinished` meets its contract: nothing waits, or what does is dropped.
+-- `gather::Numbers::unfinished` meets its contract: nothing waits, or what does is dropped.
 -- Assumes nothing.
 use borrow.Author.Needs.{needs}
 use borrow.Author.Tests.{eq-eqb, ne-eqb}
-use Rattle.gather.proofs.Held.unfinished.Statement.{statement}
-use Rattle.gather.proofs.Held.unfinished.Tie as tie
+use Rattle.gather.proofs.Numbers.unfinished.Statement.{statement}
+use Rattle.gather.proofs.Numbers.unfinished.Tie as tie
 
 returns : tie.Need-returns
 returns c = rw (eq-eqb _ _ (c .if1 .taken))
