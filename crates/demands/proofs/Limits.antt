@@ -12,23 +12,22 @@ use borrow.Author.Tests.{eq-eqb, ne-eqb, ltb-false}
 use Rattle.fields.proofs.Cases.{cases}
 use Rattle.refusals.specs.Checks.{first}
 use Rattle.packet.specs.Layout.{sizeOf}
-use Rattle.packet.specs.Cut.{cut}
 use Rattle.transport.specs.Header.{countOf}
 use Rattle.transport.specs.Tests.{transportChecks}
 use Rattle.transport.specs.Load.{Load, transportOf}
 use Rattle.transport.proofs.LoadLaws.{Sound, transport-length, found}
 use Rattle.carry.proofs.Theorems.{pid-small}
-use Rattle.gather.specs.State.{countOver, unfit, repeats, gatherChecks}
+use Rattle.gather.specs.State.{countOver, unfit, repeats}
 use Rattle.gather.specs.Rules.{none, Brought, broughtBy, Hand, handsOut, outOfTurn, reaches, unfinished, upToStart, rulesOn}
 use Rattle.gather.specs.Gather.{Outcome, inHand, enteredOf, refusedOf, takenOf, gatherOf}
 use Rattle.gather.specs.declared.Last.{Last}
-use Rattle.gather.specs.declared.Last.the-variants.{Nothing, Count}
+use Rattle.gather.specs.declared.Last.the-variants.{Count}
 use Rattle.gather.specs.declared.Reader.{Reader}
 use Rattle.gather.proofs.RefusalLaws.{fit-parts, carriage-taken}
 use Rattle.gather.proofs.EnterLaws.{rule-lost, rule-altered, rule-kept}
 use Rattle.gather.proofs.JoinLaws.{joint, stage-cases}
 use Rattle.gather.proofs.GatherLaws.{gather-refused, gather-taken}
-use Rattle.gather.proofs.StateLaws.{rule-cases, strays-cases, from-start-cases, rules-cases}
+use Rattle.gather.proofs.StateLaws.{strays-cases, from-start-cases, rules-cases}
 use Rattle.gather.proofs.ReadingLaws.{writers-passes, accepted}
 
 -- ---- only rule 1 marks a loss

@@ -1,14 +1,12 @@
 -- Demands 1 and 2 settle every answer: whatever library meets both answers every input as ours does (01, "How full each
 -- statement is": two results that a statement allows are equal).
 -- Assumes nothing.
-use mathlib.Core.Path.{_≡_, refl, sym, ap, _∙_}
-use mathlib.Core.Bool.{Bool, true, false}
+use mathlib.Core.Path.{_≡_, sym, ap, _∙_}
+use mathlib.Core.Bool.{false}
 use mathlib.Core.List.{List, [], _∷_}
 use Prim.Native.Nat.{ℕ, _+_, _%_, _<_}
 use native.Mathlib.Omega.{arith}
 use lib.Dec.{eqb, ltb}
-use lib.IntN.{ℤ}
-use lib.ListN.{length}
 use borrow.Author.Tests.{eqb-true, eqb-false, ltb-true, ltb-false}
 use Rattle.fields.proofs.Cases.{cases}
 use Rattle.refusals.specs.Checks.{Check, _when_, first}
@@ -31,7 +29,7 @@ use Rattle.carry.specs.Carry.{carryOf}
 use Rattle.gather.specs.State.{startOf}
 use Rattle.gather.specs.Gather.{gatherOf}
 use Rattle.demands.specs.Library.{Library, Alike, ours}
-use Rattle.demands.specs.Demand1.{Refuses, Answers, wroteNothing, Writes, Demand1}
+use Rattle.demands.specs.Demand1.{Refuses, wroteNothing, Writes, Demand1}
 use Rattle.demands.specs.Demand2.{Demand2}
 use Rattle.demands.specs.Demand2.Writing.{laid}
 

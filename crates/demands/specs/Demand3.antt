@@ -3,20 +3,21 @@
 use mathlib.Core.Path.{_≡_}
 use mathlib.Core.Bool.{Bool, false}
 use mathlib.Core.List.{List, [], _∷_, _++_}
-use Prim.Native.Nat.{ℕ, suc, _*_, _≤_, _<_}
-use lib.ListN.{length, take}
+use Prim.Native.Nat.{ℕ, _*_, _≤_, _<_}
+use lib.ListN.{length}
 use Rattle.fields.specs.Numbers.{Bytes}
-use Rattle.packet.specs.Cut.{AllWhole, cut, joined}
+use Rattle.packet.specs.Cut.{AllWhole, joined}
 use Rattle.transport.specs.Tests.{pidOutside}
 use Rattle.carry.specs.Loads.{loadsOf}
 use Rattle.carry.specs.Theorems.{streamOf}
 use Rattle.gather.specs.Marks.{lossAlone}
 use Rattle.gather.specs.Gather as gathering
+use Rattle.gather.specs.Calls.{callsBy, lent, wroteBy, handedBy, handedAll, marksAll}
 use Rattle.gather.specs.declared.Marks.{Marks}
 use Rattle.gather.specs.declared.Reader.{Reader}
 use Rattle.demands.specs.Library.{Library}
 use Rattle.demands.specs.Demand2.Carry.{transports}
-use Rattle.demands.specs.Route.{Item, Latest, nothing, Route, inputs, arrives, due, lossMarks}
+use Rattle.demands.specs.Route.{Item, nothing, Route, inputs, arrives, due, lossMarks}
 
 -- ---- the writer's side
 
@@ -50,59 +51,26 @@ carryAll lib pid count (b ∷ bs) =
 
 -- ---- the reader's side
 
--- what a call tells: the bytes that it wrote, the number of its packets, and its marks
-pub record Told : Type 0 where
-  pub bytes : List ℕ
-  pub packets : ℕ
-  pub marks : Marks
-
-abbrev pub toldBy : gathering.Outcome → Told
-toldBy o =
-    record {
-      bytes = take (o .answer .bytes) (o .output);
-      packets = o .answer .packets;
-      marks = o .answer .marks;
-    }
-
--- call after call: the state and the gathering buffer are as the last call left them, the output holds anything
-abbrev pub run : Library → Reader → List ℕ → (ℕ → List ℕ) → List (List ℕ) → List Told
-run lib s gathering outs [] = []
-run lib s gathering outs (t ∷ ts) =
-    let o = lib .gather s t gathering (outs 0) in
-    toldBy o ∷ run lib (o .answer .reader) (o .gathering) (λ n. outs (suc n)) ts
-
--- the packets that a call handed out: its bytes, cut by the packets' own lengths
-abbrev pub handedBy : Told → List (List ℕ)
-handedBy t = cut (t .bytes) .packets
-
--- whole packets whose CRCs hold, and nothing else; and as many as it says
-pub record Clean (t : Told) : Type 0 where
-  pub bytes : joined (handedBy t) ≡ t .bytes
-  pub number : t .packets ≡ length (handedBy t)
-
-abbrev pub handedOut : List Told → List (List ℕ)
-handedOut [] = []
-handedOut (t ∷ ts) = handedBy t ++ handedOut ts
-
-abbrev pub marksOf : List Told → List Marks
-marksOf [] = []
-marksOf (t ∷ ts) = t .marks ∷ marksOf ts
+-- a call hands out whole packets whose CRCs hold, and nothing else; and as many as it says
+pub record Clean (o : gathering.Outcome) : Type 0 where
+  pub bytes : joined (handedBy o) ≡ wroteBy o
+  pub number : o .answer .packets ≡ length (handedBy o)
 
 -- these losses, and neither a misfit nor a wrong CRC
 abbrev pub lossesAlone : List Bool → List Marks
 lossesAlone [] = []
 lossesAlone (b ∷ bs) = lossAlone b ∷ lossesAlone bs
 
--- what the calls told, where these packets and these loss marks are due
-pub record Exactly (packets : List (List ℕ)) (losses : List Bool) (ts : List Told) : Type 0 where
-  pub handed : handedOut ts ≡ packets
-  pub marked : marksOf ts ≡ lossesAlone losses
+-- what calls give, where these packets and these loss marks are due
+pub record Exactly (packets : List (List ℕ)) (losses : List Bool) (os : List gathering.Outcome) : Type 0 where
+  pub handed : handedAll os ≡ packets
+  pub marked : marksAll os ≡ lossesAlone losses
 
 -- ---- the demand
 
 -- whatever arrives, in any state, only whole packets whose CRCs hold are handed out
 abbrev pub AlwaysClean : Library → Type 0
-AlwaysClean lib = (s : Reader) (t gathering output : List ℕ) → Clean (toldBy (lib .gather s t gathering output))
+AlwaysClean lib = (s : Reader) (t gathering output : List ℕ) → Clean (lib .gather s t gathering output)
 
 -- the transport packets carry the batches' bytes, all of them and in order
 abbrev pub CarriesAll : Library → Type 0
@@ -110,7 +78,7 @@ CarriesAll lib =
     (pid count : ℕ) → pidOutside pid ≡ false → count < 16 → (batches : List Batch) → AllCarriable batches
     → joined (streamOf (carryAll lib pid count batches)) ≡ joined (packetsOf batches)
 
--- a fresh reader of that PID, with buffers of 01's sizes, over any route
+-- a fresh reader of that PID, with buffers of 01's sizes, over any route; what the outputs hold does not matter
 abbrev pub GathersExactly : Library → Type 0
 GathersExactly lib =
     (pid count : ℕ) → pidOutside pid ≡ false → count < 16 → (batches : List Batch) → AllCarriable batches
@@ -118,7 +86,7 @@ GathersExactly lib =
     → (gathering : List ℕ) → 8202 ≤ length gathering
     → (outs : ℕ → List ℕ) → ((n : ℕ) → 8385 ≤ length (outs n))
     → Exactly (due (arrives is) (carryAll lib pid count batches) 0 (packetsOf batches)) (lossMarks nothing is)
-    (run lib (lib .start pid .reader) gathering outs (inputs (carryAll lib pid count batches) is))
+    (callsBy (lib .gather) (lib .start pid .reader) gathering (lent outs (inputs (carryAll lib pid count batches) is)))
 
 pub record Demand3 (lib : Library) : Type 0 where
   pub clean : AlwaysClean lib

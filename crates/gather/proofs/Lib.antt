@@ -9,3 +9,4 @@ pub mod GatherLaws
 pub mod StateLaws
 pub mod HandedLaws
 pub mod ReadingLaws
+pub mod CallLaws

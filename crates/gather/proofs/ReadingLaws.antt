@@ -75,7 +75,7 @@ brought-start pid count n d hp hc sound =
     let f : Found pid count (start n d) = found pid count (start n d) hp hc sound in
     rw (f .begun, f .counted, f .carries, pointer-is pid count n d hp hc)
 
--- without a start every accepted packet brings a byte, so that rule 2 finds a misfit where nothing waits
+-- A theorem: without a start every accepted packet brings a byte, so that rule 2 finds a misfit where nothing waits
 pub plain-carries : (t : List ℕ) → length t ≡ 188 → fieldLong t ≡ false → starts t ≡ false → 0 < length (broughtBy t .before)
 plain-carries t w f b =
     rw (brings-plain t b w, length-part (payloadAt t) (188 - payloadAt t) t (omega (arith, payload-in t f))) (omega (arith, payload-in t f))

@@ -9,8 +9,8 @@ use lib.Dec.{eqb, ltb}
 use lib.ListN.{length, getD}
 use borrow.Author.Tests.{eq-eqb, eqb-true, le-ltb, ltb-false, leb-false, not-false}
 use Rattle.fields.proofs.Cases.{cases}
-use Rattle.refusals.specs.Checks.{Check, _when_, first}
-use Rattle.refusals.proofs.CheckLaws.{NoneHolds, none-holds, first-zero, first-front, first-behind}
+use Rattle.refusals.specs.Checks.{_when_, first}
+use Rattle.refusals.proofs.CheckLaws.{none-holds, none-front, first-zero, first-front, first-behind}
 use Rattle.transport.specs.Header.{controlOf, countOf, starts, payloadAt, pointerOf}
 use Rattle.transport.specs.Tests.{pidOutside, fieldLong, pointerBeyond, transportChecks}
 use Rattle.gather.specs.State.{countOver, waitsOutOfStep, unfit, repeats, gatherChecks}
@@ -41,10 +41,6 @@ pub record Passed (s : Reader) (t : List ℕ) (room space : ℕ) : Type 0 where
   pub field : fieldLong t ≡ false
   pub aims : pointerBeyond t ≡ false
   pub new : repeats (s .last) (countOf t) ≡ false
-
-none-front : (l m : List Check) → NoneHolds (l ++ m) → NoneHolds l
-none-front [] m h = tt
-none-front ((n when b) ∷ l) m h = (h .0, none-front l m (h .1))
 
 pub passed : (s : Reader) (t : List ℕ) (room space : ℕ) → first (gatherChecks s t room space) ≡ 0 → Passed s t room space
 unfolding gatherChecks transportChecks

@@ -3,5 +3,6 @@ pub mod State
 pub mod Marks
 pub mod Rules
 pub mod Gather
+pub mod Calls
 pub mod Phases
 pub mod Theorems

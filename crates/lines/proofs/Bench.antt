@@ -19,10 +19,10 @@ use Rattle.gather.specs.Gather.{takenOf, gatherOf}
 use Rattle.text.specs.Digits.{spellBy, spell, digits}
 use Rattle.text.specs.Laid.{word}
 use Rattle.lines.specs.Lines.{headLine, fieldsLine, lineBy, linesOf, lastLine}
-use Rattle.lines.specs.Listing.{capped, handedBy}
-use Rattle.lines.specs.Theorems.{calls, handedAll, losses, textOf, listingOf}
+use Rattle.lines.specs.Listing.{capped}
+use Rattle.lines.specs.Theorems.{losses, textOf, listingOf}
 use Rattle.lines.specs.Rows.{exampleTransport, exampleText}
 
 pub example-listed : listingOf (exampleTransport ∷ []) ≡ exampleText
-unfolding listingOf calls textOf handedAll losses exampleTransport exampleText handedBy capped linesOf lineBy fieldsLine word headLine lastLine digits spell spellBy gatherOf takenOf gatherChecks unfit broughtBy ruleOne upToStart fromStart rulesOn pidOutside fieldLong pointerBeyond transportChecks headerField payloadAt carriedAt carriedBy cutBy cut joined headerOf payloadOf readChecks readOf reservedType padSet sizeOf answer part overlay numberAt number pack unpack shift bitAt feed run crcOf crcHolds
+unfolding listingOf textOf losses exampleTransport exampleText capped linesOf lineBy fieldsLine word headLine lastLine digits spell spellBy gatherOf takenOf gatherChecks unfit broughtBy ruleOne upToStart fromStart rulesOn pidOutside fieldLong pointerBeyond transportChecks headerField payloadAt carriedAt carriedBy cutBy cut joined headerOf payloadOf readChecks readOf reservedType padSet sizeOf answer part overlay numberAt number pack unpack shift bitAt feed run crcOf crcHolds
 example-listed = refl

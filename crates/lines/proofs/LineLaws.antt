@@ -14,7 +14,7 @@ use Rattle.fields.specs.Formats.{unpack, Fit}
 use Rattle.fields.specs.Parts.{numberAt, overlay}
 use Rattle.fields.proofs.Cases.{cases}
 use Rattle.fields.proofs.FormatLaws.{unpack-fit}
-use Rattle.refusals.specs.Checks.{Check, _when_, first}
+use Rattle.refusals.specs.Checks.{Check, _when_, holds, number, first}
 use Rattle.packet.specs.Layout.{header, sizeOf, reservedType, padSet}
 use Rattle.packet.specs.Read.{field, headerOf, payloadOf, reservedSet, readChecks, noHeader, readOf}
 use Rattle.packet.specs.Cut.{cut}
@@ -42,12 +42,11 @@ by-fields p h = rw (eq-eqb (p .refusal) 0 h)
 -- the numbers of checks are below m
 abbrev Under : ℕ → List Check → Type 0
 Under m [] = 0 < m
-Under m ((n when b) ∷ l) = (n < m) × Under m l
+Under m (c ∷ l) = (number c < m) × Under m l
 
 first-under : (m : ℕ) (l : List Check) → Under m l → first l < m
 first-under m [] u = u
-first-under m ((n when true) ∷ l) u = u .0
-first-under m ((n when false) ∷ l) u = first-under m l (u .1)
+first-under m (c ∷ l) u = cases (holds c) (λ t. rw t (u .0)) (λ t. rw t (first-under m l (u .1)))
 
 refusal-under : (s : List ℕ) → first (readChecks s) < 100
 unfolding readChecks

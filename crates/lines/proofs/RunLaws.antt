@@ -1,66 +1,31 @@
 -- A whole listing: whatever the reader's output holds when a call comes, and wherever the lines are written out between, what is
 -- printed is the header, a line for each packet handed out, and the totals.
 -- Assumes nothing.
-use mathlib.Core.Path.{_≡_, refl, sym, ap, _∙_}
+use mathlib.Core.Path.{_≡_, refl, sym, ap, ap₂, _∙_}
 use mathlib.Core.Bool.{true, false}
 use mathlib.Core.List.{List, [], _∷_, _++_, append-assoc, append-nil}
 use Prim.Native.Nat.{ℕ, _+_, _-_, _*_, _^_, _≤_, _<_}
 use native.Mathlib.Nat.{add-zero, zero-add, add-assoc}
 use native.Mathlib.Omega.{arith}
-use lib.Dec.{eqb, lit<}
+use lib.Dec.{lit<}
 use lib.ListN.{length, take, replicate, length-append, length-drop, length-replicate}
 use lib.Seq.{length-take-le}
-use borrow.Author.Tests.{eqb-true, eqb-false, le-ltb, le-leb}
+use borrow.Author.Tests.{le-leb}
 use Rattle.fields.specs.Parts.{overlay}
 use Rattle.fields.proofs.Cases.{cases, true≢false}
 use Rattle.fields.proofs.PartLaws.{overlay-is, take-overlay, take-front}
-use Rattle.refusals.specs.Checks.{first}
-use Rattle.gather.specs.State.{fresh, gatherChecks}
-use Rattle.gather.specs.Gather.{Outcome, refusedOf, takenOf, gatherOf}
-use Rattle.gather.specs.declared.Reader.{Reader}
-use Rattle.gather.specs.declared.Gathered.{Gathered}
-use Rattle.gather.proofs.GatherLaws.{gather-refused, gather-taken}
+use Rattle.gather.specs.State.{fresh}
+use Rattle.gather.specs.Gather.{Outcome, gatherOf}
+use Rattle.gather.specs.Calls.{Call, callsOf, transportsOf, Spacious, handedBy, handedAll, marksAll}
+use Rattle.gather.specs.declared.Marks.{Marks}
+use Rattle.gather.proofs.CallLaws.{call-number, AllAlike, calls-alike}
 use Rattle.text.specs.Laid.{space, newline, Filled, laid, appended}
 use Rattle.lines.specs.Lines.{headLine, lineOf, linesOf, lastLine}
-use Rattle.lines.specs.Listing.{listedPid, capped, bit, afterOf, handedBy, roomy, Stepped, listedOf, stepOf}
-use Rattle.lines.specs.Theorems.{calls, handedAll, losses, textOf, listingOf, Run, shown, flushed, Piece, stepOn, ranOn, Holds, fed, fedAll, begun, ended, transports, Ample}
+use Rattle.lines.specs.Listing.{listedPid, capped, bit, afterOf, roomy, Stepped, listedOf, stepOf}
+use Rattle.lines.specs.Theorems.{losses, textOf, listingOf, Run, shown, flushed, stepOn, ranOn, Holds, fed, fedAll, begun, ended, Ample}
 use Rattle.lines.specs.declared.Listing.{Listing}
 use Rattle.text.proofs.LayLaws.{appended-fits, word-few}
-use Rattle.lines.proofs.StepLaws.{step-full, step-goes, none-handed, taken-handed, handed-count, capped-same}
-
--- ---- a call does not depend on what the output holds
-
-pub record Alike (a b : Outcome) : Type 0 where
-  pub answer : a .answer ≡ b .answer
-  pub gathering : a .gathering ≡ b .gathering
-  pub handed : handedBy a ≡ handedBy b
-
-checks-alike : (s : Reader) (t : List ℕ) (room space other : ℕ) → 8385 ≤ space → 8385 ≤ other → gatherChecks s t room space ≡ gatherChecks s t room other
-unfolding gatherChecks
-checks-alike s t room space other h k = rw (le-ltb space 8385 h, le-ltb other 8385 k)
-
-module _ (s : Reader) (t g o p : List ℕ) (h : 8385 ≤ length o) (k : 8385 ≤ length p) where
-  first-alike : first (gatherChecks s t (length g) (length p)) ≡ first (gatherChecks s t (length g) (length o))
-  first-alike = ap first (checks-alike s t (length g) (length p) (length o) k h)
-
-  taken-alike : Alike (takenOf s t g o) (takenOf s t g p)
-  taken-alike =
-      record {
-        answer = unfold takenOf in refl;
-        gathering = unfold takenOf in refl;
-        handed = taken-handed s t g o ∙ sym (taken-handed s t g p);
-      }
-
-  refused-alike : (n : ℕ) → Alike (refusedOf s g o n) (refusedOf s g p n)
-  refused-alike n = record { answer = refl; gathering = refl; handed = none-handed s t g o n ∙ sym (none-handed s t g p n) }
-
-  pub calls-alike : Alike (gatherOf s t g o) (gatherOf s t g p)
-  calls-alike =
-      let n : ℕ = first (gatherChecks s t (length g) (length o)) in
-      cases (eqb n 0)
-      (λ e. let z : n ≡ 0 = eqb-true _ _ e in rw (gather-taken s t g o z, gather-taken s t g p (first-alike ∙ z)) taken-alike)
-      (λ e. let z = eqb-false n 0 e in
-      rw (← gather-refused s t g o n refl z, ← gather-refused s t g p n (sym first-alike) z) (refused-alike n))
+use Rattle.lines.proofs.StepLaws.{step-full, step-goes, capped-same}
 
 -- ---- lines and totals add up
 
@@ -87,7 +52,7 @@ longer : (at : ℕ) (p l : List ℕ) → at ≤ length l → (length l ≤ lengt
 longer at p l h =
     rw (overlay-is at p l) (simp (length-append, length-take-le at l h, length-drop) (omega arith, omega arith))
 
-module _ (x : Piece) (r : Run) (w : r .filled ≤ length (r .lines)) where
+module _ (x : Call) (r : Run) (w : r .filled ≤ length (r .lines)) where
   abbrev call : Outcome
   call = gatherOf (r .listing .reader) (x .transport) (r .gathering) (x .output)
 
@@ -107,7 +72,7 @@ module _ (x : Piece) (r : Run) (w : r .filled ≤ length (r .lines)) where
         room = longer (r .filled) p (r .lines) w .0;
       })
 
-module _ (x : Piece) (r : Run) (w : r .filled ≤ length (r .lines)) (ample : 2 * length (x .output) ≤ length (r .lines)) where
+module _ (x : Call) (r : Run) (w : r .filled ≤ length (r .lines)) (ample : 2 * length (x .output) ≤ length (r .lines)) where
   -- after the lines are written out there is room
   roomy-again : roomy 0 (length (x .output)) (length (r .lines)) ≡ true
   unfolding roomy
@@ -136,7 +101,7 @@ module _ (x : Piece) (r : Run) (w : r .filled ≤ length (r .lines)) (ample : 2 
 holds-ran : (s : Stepped) (w : List ℕ) (r : Run) → ranOn s w ≡ r → Holds (s .answer .listing) (s .gathering) (s .lines) (s .answer .filled) r
 holds-ran s w r e = ap (λ (v : List ℕ). ranOn s v) (sym (ap (λ (x : Run). x .written) e)) ∙ e
 
-module _ (x : Piece) (r : Run) (s : Stepped) (e : s ≡ stepOn x r) where
+module _ (x : Call) (r : Run) (s : Stepped) (e : s ≡ stepOn x r) where
   is-first : s .answer .full ≡ false → ranOn s (r .written) ≡ fed x r
   unfolding fed
   is-first h = rw (← e, h)
@@ -164,85 +129,72 @@ module _ (x : Piece) (r : Run) (s : Stepped) (e : s ≡ stepOn x r) where
 
 -- ---- all pieces
 
-abbrev blank : List ℕ
-blank = replicate 8385 0
-
-blank-long : 8385 ≤ length blank
-blank-long = let z : ℕ = 0 in rw (length-replicate 8385 z) (omega arith)
-
 -- from r to e the reader answered so
 record Ran (r e : Run) (n m : ℕ) (answers : List Outcome) : Type 0 where
   packets : e .listing .packets ≡ capped (n + length (handedAll answers))
-  gaps : e .listing .gaps ≡ capped (m + losses answers)
+  gaps : e .listing .gaps ≡ capped (m + losses (marksAll answers))
   shows : shown e ≡ shown r ++ linesOf (handedAll answers)
   room : length (r .lines) ≤ length (e .lines)
 
-abbrev answersTo : List Piece → Run → List Outcome
-answersTo xs r = calls (r .listing .reader) (r .gathering) (transports xs)
+abbrev answersTo : List Call → Run → List Outcome
+answersTo xs r = callsOf (r .listing .reader) (r .gathering) xs
 
-module _ (x : Piece) (xs : List Piece) (r e : Run) where
+module _ (x : Call) (xs : List Call) (r e : Run) where
   abbrev a : Outcome
   a = gatherOf (r .listing .reader) (x .transport) (r .gathering) (x .output)
 
-  abbrev b : Outcome
-  b = gatherOf (r .listing .reader) (x .transport) (r .gathering) blank
-
-  module _ (alike : Alike a b) (d : Fed r e a) where
+  module _ (d : Fed r e a) where
     -- the reader goes on from where this piece left it
-    answers-on : answersTo (x ∷ xs) r ≡ b ∷ answersTo xs e
-    unfolding calls
+    answers-on : answersTo (x ∷ xs) r ≡ a ∷ answersTo xs e
     answers-on =
-        let s : b .answer .reader ≡ e .listing .reader = sym (ap (λ (l : Listing). l .reader) (d .listing) ∙ ap (λ (y : Gathered). y .reader) (alike .answer)) in
-        let g : b .gathering ≡ e .gathering = sym (d .gathering ∙ alike .gathering) in
-        λ i. b ∷ calls (s i) (g i) (transports xs)
+        let s : a .answer .reader ≡ e .listing .reader = sym (ap (λ (l : Listing). l .reader) (d .listing)) in
+        let g : a .gathering ≡ e .gathering = sym (d .gathering) in
+        λ i. a ∷ callsOf (s i) (g i) xs
 
     -- the totals after it
-    packets-on : (n : ℕ) → r .listing .packets ≡ capped n → e .listing .packets ≡ capped (n + length (handedBy b))
+    packets-on : (n : ℕ) → r .listing .packets ≡ capped n → e .listing .packets ≡ capped (n + length (handedBy a))
     packets-on n h =
-        let k : a .answer .packets ≡ length (handedBy b) = sym (handed-count (r .listing .reader) (x .transport) (r .gathering) (x .output)) ∙ ap length (alike .handed) in
         ap (λ (l : Listing). l .packets) (d .listing)
         ∙ ap (λ (p : ℕ). capped (p + a .answer .packets)) h
         ∙ capped-add n (a .answer .packets)
-        ∙ ap (λ (p : ℕ). capped (n + p)) k
+        ∙ ap (λ (p : ℕ). capped (n + p)) (call-number (r .listing .reader) (x .transport) (r .gathering) (x .output))
 
-    gaps-on : (m : ℕ) → r .listing .gaps ≡ capped m → e .listing .gaps ≡ capped (m + bit (b .answer .marks .loss))
+    gaps-on : (m : ℕ) → r .listing .gaps ≡ capped m → e .listing .gaps ≡ capped (m + bit (a .answer .marks .loss))
     gaps-on m h =
         ap (λ (l : Listing). l .gaps) (d .listing)
         ∙ ap (λ (p : ℕ). capped (p + bit (a .answer .marks .loss))) h
         ∙ capped-add m (bit (a .answer .marks .loss))
-        ∙ ap (λ (y : Gathered). capped (m + bit (y .marks .loss))) (alike .answer)
 
-    ran-on : (f : Run) (n m : ℕ) → Ran e f (n + length (handedBy b)) (m + bit (b .answer .marks .loss)) (answersTo xs e) → Ran r f n m (answersTo (x ∷ xs) r)
-    unfolding handedAll losses
+    ran-on : (f : Run) (n m : ℕ) → Ran e f (n + length (handedBy a)) (m + bit (a .answer .marks .loss)) (answersTo xs e) → Ran r f n m (answersTo (x ∷ xs) r)
+    unfolding losses
     ran-on f n m t =
         let more : List Outcome = answersTo xs e in
-        let p : n + length (handedBy b) + length (handedAll more) ≡ n + length (handedBy b ++ handedAll more) = omega (arith, length-append (handedBy b) (handedAll more)) in
-        let q : m + bit (b .answer .marks .loss) + losses more ≡ m + (bit (b .answer .marks .loss) + losses more) = add-assoc m (bit (b .answer .marks .loss)) (losses more) in
+        let p : n + length (handedBy a) + length (handedAll more) ≡ n + length (handedBy a ++ handedAll more) = omega (arith, length-append (handedBy a) (handedAll more)) in
+        let q : m + bit (a .answer .marks .loss) + losses (marksAll more) ≡ m + (bit (a .answer .marks .loss) + losses (marksAll more)) = add-assoc m (bit (a .answer .marks .loss)) (losses (marksAll more)) in
         rw answers-on
         (record {
           packets = t .packets ∙ ap capped p;
           gaps = t .gaps ∙ ap capped q;
           shows = t .shows
-              ∙ ap (λ (l : List ℕ). l ++ linesOf (handedAll more)) (d .shows ∙ ap (λ (y : List (List ℕ)). shown r ++ linesOf y) (alike .handed))
-              ∙ append-assoc (shown r) (linesOf (handedBy b)) (linesOf (handedAll more))
-              ∙ ap (λ (l : List ℕ). shown r ++ l) (sym (lines-append (handedBy b) (handedAll more)));
+              ∙ ap (λ (l : List ℕ). l ++ linesOf (handedAll more)) (d .shows)
+              ∙ append-assoc (shown r) (linesOf (handedBy a)) (linesOf (handedAll more))
+              ∙ ap (λ (l : List ℕ). shown r ++ l) (sym (lines-append (handedBy a) (handedAll more)));
           room = omega (arith, t .room, d .room);
         })
 
 ran-none : (r : Run) (n m : ℕ) → r .listing .packets ≡ capped n → r .listing .gaps ≡ capped m → Ran r r n m (answersTo [] r)
-unfolding calls handedAll losses linesOf
+unfolding losses linesOf
 ran-none r n m p q =
     record { packets = p ∙ ap capped (sym (add-zero n)); gaps = q ∙ ap capped (sym (add-zero m)); shows = sym (append-nil (shown r)); room = omega arith }
 
-ran-all : (xs : List Piece) (r : Run) (n m room : ℕ) → r .filled ≤ length (r .lines) → room ≤ length (r .lines) → Ample room xs
+ran-all : (xs : List Call) (r : Run) (n m room : ℕ) → r .filled ≤ length (r .lines) → room ≤ length (r .lines) → Ample room xs
     → r .listing .packets ≡ capped n → r .listing .gaps ≡ capped m → Ran r (fedAll xs r) n m (answersTo xs r)
 unfolding fedAll
 ran-all [] r n m room w h ample p q = ran-none r n m p q
 ran-all (x ∷ xs) r n m room w h ample p q =
-    let k : Alike (a x xs r (fed x r)) (b x xs r (fed x r)) = calls-alike (r .listing .reader) (x .transport) (r .gathering) (x .output) blank (ample .0) blank-long in
     let d : Fed r (fed x r) (a x xs r (fed x r)) = piece-fed x r w (omega (arith, ample .1)) in
-    ran-on x xs r (fed x r) k d (fedAll xs (fed x r)) n m
-    (ran-all xs (fed x r) (n + length (handedBy (b x xs r (fed x r)))) (m + bit (b x xs r (fed x r) .answer .marks .loss)) room (d .within) (omega (arith, d .room)) (ample .2) (packets-on x xs r (fed x r) k d n p) (gaps-on x xs r (fed x r) k d m q))
+    ran-on x xs r (fed x r) d (fedAll xs (fed x r)) n m
+    (ran-all xs (fed x r) (n + length (handedBy (a x xs r (fed x r)))) (m + bit (a x xs r (fed x r) .answer .marks .loss)) room (d .within) (omega (arith, d .room)) (ample .2) (packets-on x xs r (fed x r) d n p) (gaps-on x xs r (fed x r) d m q))
 
 -- ---- the first line and the last
 
@@ -293,28 +245,41 @@ unfolding capped
 capped-zero = refl
 
 -- THE LISTING: what is written out at the end is the header, a line for each packet handed out, and the totals
-pub listing-printed : (xs : List Piece) (g lines : List ℕ) → 55 ≤ length lines → Ample (length lines) xs
-    → ended (fedAll xs (begun g lines)) .written ≡ textOf (calls (fresh listedPid) g (transports xs))
+pub listing-printed : (xs : List Call) (g lines : List ℕ) → 55 ≤ length lines → Ample (length lines) xs
+    → ended (fedAll xs (begun g lines)) .written ≡ textOf (callsOf (fresh listedPid) g xs)
 unfolding textOf
 listing-printed xs g lines long ample =
     let r : Run = begun g lines in
     let e : Run = fedAll xs r in
     let answers : List Outcome = answersTo xs r in
+    let marks : List Marks = marksAll answers in
     let t : Ran r e 0 0 answers = ran-all xs r 0 0 (length lines) (begun-within g lines long) (begun-room g lines long) ample capped-zero capped-zero in
-    let last : List ℕ = lastLine (capped (length (handedAll answers))) (capped (losses answers)) in
-    ended-written e (length (handedAll answers)) (losses answers) (t .packets ∙ ap capped (zero-add (length (handedAll answers)))) (t .gaps ∙ ap capped (zero-add (losses answers))) (omega (arith, t .room, begun-room g lines long))
+    let last : List ℕ = lastLine (capped (length (handedAll answers))) (capped (losses marks)) in
+    ended-written e (length (handedAll answers)) (losses marks) (t .packets ∙ ap capped (zero-add (length (handedAll answers)))) (t .gaps ∙ ap capped (zero-add (losses marks))) (omega (arith, t .room, begun-room g lines long))
     ∙ ap (λ (l : List ℕ). l ++ last) (t .shows ∙ ap (λ (l : List ℕ). l ++ linesOf (handedAll answers)) (begun-shown g lines long))
     ∙ append-assoc headLine (linesOf (handedAll answers)) last
 
--- the same with a gathering buffer of zeros, as a program begins: 01's listing
-pub program-prints : (xs : List Piece) (lines : List ℕ) → 55 ≤ length lines → Ample (length lines) xs
-    → ended (fedAll xs (begun (replicate 8202 0) lines)) .written ≡ listingOf (transports xs)
+-- whatever the reader's output holds when a call comes
+text-alike : {a b : List Outcome} → AllAlike a b → textOf a ≡ textOf b
+unfolding textOf
+text-alike k =
+    ap₂ (λ (ps : List (List ℕ)) (ms : List Marks). headLine ++ (linesOf ps ++ lastLine (capped (length ps)) (capped (losses ms)))) (k .handed) (k .marks)
+
+ample-spacious : (room : ℕ) (xs : List Call) → Ample room xs → Spacious xs
+ample-spacious room [] h = tt
+ample-spacious room (x ∷ xs) h = (h .0, ample-spacious room xs (h .2))
+
+-- the same with buffers of zeros, as a program begins: 01's listing
+pub program-prints : (xs : List Call) (lines : List ℕ) → 55 ≤ length lines → Ample (length lines) xs
+    → ended (fedAll xs (begun (replicate 8202 0) lines)) .written ≡ listingOf (transportsOf xs)
 unfolding listingOf
-program-prints xs lines long ample = listing-printed xs (replicate 8202 0) lines long ample
+program-prints xs lines long ample =
+    listing-printed xs (replicate 8202 0) lines long ample
+    ∙ text-alike (calls-alike xs (ample-spacious (length lines) xs ample) (λ n. replicate 8385 0) (λ n. rw (length-replicate {A = ℕ} 8385 0) (omega arith)) (fresh listedPid) (replicate 8202 0))
 
 -- ---- the totals are exact below two to the 64
 
-pub totals-exact : (answers : List Outcome) → length (handedAll answers) < 2 ^ 64 → losses answers < 2 ^ 64
-    → textOf answers ≡ headLine ++ (linesOf (handedAll answers) ++ lastLine (length (handedAll answers)) (losses answers))
+pub totals-exact : (answers : List Outcome) → length (handedAll answers) < 2 ^ 64 → losses (marksAll answers) < 2 ^ 64
+    → textOf answers ≡ headLine ++ (linesOf (handedAll answers) ++ lastLine (length (handedAll answers)) (losses (marksAll answers)))
 unfolding textOf
-totals-exact answers p q = rw (capped-same (length (handedAll answers)) p, capped-same (losses answers) q)
+totals-exact answers p q = rw (capped-same (length (handedAll answers)) p, capped-same (losses (marksAll answers)) q)

@@ -3,11 +3,11 @@ use Prim.Native.Nat.{ℕ, _+_, _-_, _*_, _^_, min}
 use mathlib.Core.Bool.{Bool, true, false, cond}
 use mathlib.Core.List.{List}
 use lib.Dec.{leb}
-use lib.ListN.{length, take}
+use lib.ListN.{length}
 use Rattle.fields.specs.Parts.{overlay}
-use Rattle.packet.specs.Cut.{cut}
 use Rattle.gather.specs.State.{fresh}
 use Rattle.gather.specs.Gather.{Outcome, gatherOf}
+use Rattle.gather.specs.Calls.{handedBy}
 use Rattle.gather.specs.declared.Gathered.{Gathered}
 use Rattle.lines.specs.Lines.{linesOf}
 use Rattle.lines.specs.declared.Listing.{Listing}
@@ -40,10 +40,6 @@ afterOf l a =
     }
 
 -- ---- a step
-
--- the packets that a call handed out: the bytes that it wrote, cut by their own lengths
-unfoldable pub handedBy : Outcome → List (List ℕ)
-handedBy o = cut (take (o .answer .bytes) (o .output)) .packets
 
 -- there is room for the lines of any call: a line is never longer than twice its packet (19 bytes for 10)
 unfoldable pub roomy : ℕ → ℕ → ℕ → Bool

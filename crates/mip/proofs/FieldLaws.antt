@@ -20,7 +20,7 @@ use Rattle.fields.proofs.ByteFormatLaws.{unpack-parts, pack-parts}
 use Rattle.fields.proofs.PartLaws.{part-cons, part-none, number-at}
 use Rattle.refusals.specs.Checks.{first}
 use Rattle.refusals.proofs.CheckLaws.{none-holds, not-found}
-use Rattle.transport.specs.Header.{header, field, syncOf, countOf}
+use Rattle.transport.specs.Header.{header, headerField, syncOf, countOf}
 use Rattle.mip.specs.Layout.{fixedFields, parameters, parametersOf, sectionOf, crcEnd, second}
 use Rattle.mip.specs.Read.{fixedOf, differ, parameter, addressingLength, addressingOf, sectionWrong, notAllOnes, readChecks, mipOf, leadOf}
 use Rattle.mip.specs.Write.{flag, headerFields, parameterFields, leadBytes, fieldWide, writeChecks}
@@ -52,15 +52,15 @@ four p h =
     ∙ ap (λ (l : List ℕ). getD p 3 0 ∷ l) (part-none 4 p))))
 
 pub header-listed : (p : List ℕ) → 4 ≤ length p → headerOf p ≡ unpack header (number (part 0 4 p))
-unfolding field unpack
+unfolding headerField unpack
 header-listed p h = ap (λ (l : List ℕ). unpack header (number l)) (sym (four p h))
 
 module _ (p : List ℕ) (b : Bytes p) (e : length p ≡ 188) where
   pub header-number : headerOf p ≡ unpack header (numberAt 0 4 p)
   header-number = header-listed p (omega arith) ∙ ap (unpack header) (sym (number-at 0 4 p (omega arith) (omega arith)))
 
-  pub field-number : (i : ℕ) → field i p ≡ getD (unpack header (numberAt 0 4 p)) i 0
-  unfolding field
+  pub field-number : (i : ℕ) → headerField i p ≡ getD (unpack header (numberAt 0 4 p)) i 0
+  unfolding headerField
   field-number i =
       ap (λ (n : ℕ). getD (unpack header n) i 0) (ap number (sym (four p (omega arith))) ∙ sym (number-at 0 4 p (omega arith) (omega arith)))
 
@@ -211,7 +211,7 @@ module _ (m : Mip) (n : ℕ) where
       (pack-parts times tail timesFields tailFields 6 5 refl (back .1 .1) refl
       ∙ ap₂ (λ (x y : ℕ). bytes 6 x ++ bytes 5 y) times-packed tail-packed))
 
-  -- no field is too wide
+  -- no headerField is too wide
   pub wide-fit : fieldWide m n ≡ false → Fit header (headerFields m) × Fit parameters (parameterFields m n)
   unfolding fieldWide
   wide-fit h =

@@ -9,7 +9,7 @@ use Rattle.fields.specs.Parts.{part}
 use Rattle.refusals.specs.Checks.{Check, _when_}
 use Rattle.refusals.specs.Answers.{answer}
 use Rattle.addressing.specs.Data.{house, fault}
-use Rattle.transport.specs.Header.{syncOf, errorOf, startOf, priorityOf, pidOf, scramblingOf, controlOf, countOf}
+use Rattle.transport.specs.Header.{syncOf, errorOf, startBitOf, priorityOf, pidOf, scramblingOf, controlOf, countOf}
 use Rattle.mip.specs.Layout.{fixedFields, parametersOf, sectionOf, crcEnd, second}
 use Rattle.mip.specs.declared.Mip.{Mip}
 use Rattle.mip.specs.declared.MipRead.{MipRead}
@@ -19,7 +19,7 @@ use Rattle.mip.specs.declared.reading.Lead.{Lead}
 
 -- the header's, between the sync byte and the count
 abbrev pub fixedOf : List ℕ → List ℕ
-fixedOf p = errorOf p ∷ startOf p ∷ priorityOf p ∷ pidOf p ∷ scramblingOf p ∷ controlOf p ∷ []
+fixedOf p = errorOf p ∷ startBitOf p ∷ priorityOf p ∷ pidOf p ∷ scramblingOf p ∷ controlOf p ∷ []
 
 abbrev pub parameter : ℕ → List ℕ → ℕ
 parameter i p = getD (parametersOf p) i 0

@@ -75,6 +75,10 @@ pub first-front : (l m : List Check) → (first l ≡ 0 → ⊥) → first (l ++
 first-front [] m h = absurd (h refl)
 first-front (c ∷ l) m h = cases (holds c) (λ t. rw t) (λ t. rw t (first-front l m (rw t at h)))
 
+pub none-front : (l m : List Check) → NoneHolds (l ++ m) → NoneHolds l
+none-front [] m h = tt
+none-front (c ∷ l) m h = (h .0, none-front l m (h .1))
+
 pub first-behind : (l m : List Check) → NoneHolds l → first (l ++ m) ≡ first m
 first-behind [] m h = refl
 first-behind (c ∷ l) m h = rw (h .0) (first-behind l m (h .1))

@@ -30,7 +30,7 @@ abbrev pub startBitOf : List ℕ → ℕ
 startBitOf t = headerField 2 t
 
 abbrev pub priorityOf : List ℕ → ℕ
-priorityOf t = field 3 t
+priorityOf t = headerField 3 t
 
 abbrev pub pidOf : List ℕ → ℕ
 pidOf t = headerField 4 t

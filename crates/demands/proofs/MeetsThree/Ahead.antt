@@ -1,15 +1,15 @@
 -- One transport packet of the flow: what the reader makes of it if it comes, and what is due after it if it comes or is lost.
 -- Assumes nothing.
-use mathlib.Core.Path.{_≡_, refl, sym, ap, _∙_}
-use Prim.Native.Nat.{ℕ, _+_, _≤_, _<_}
-use mathlib.Core.Bool.{Bool, true, false, cond, _&&_, and-true, and-false}
+use mathlib.Core.Path.{_≡_, sym, _∙_}
+use Prim.Native.Nat.{ℕ, _+_, _≤_}
+use mathlib.Core.Bool.{Bool, true, false, and-true, and-false}
 use mathlib.Core.List.{List, [], _∷_, _++_, append-assoc, append-nil}
 use native.Mathlib.Omega.{arith}
 use lib.ListN.{length, replicate, length-append}
 use Rattle.packet.specs.Cut.{joined}
 use Rattle.packet.proofs.LayoutLaws.{size-least}
-use Rattle.transport.specs.Load.{Load, plain, start, loadBytes}
-use Rattle.carry.proofs.Flow.{Flow, done, on, end, even, split}
+use Rattle.transport.specs.Load.{Load, loadBytes}
+use Rattle.carry.proofs.Flow.{Flow, on, end, even, split}
 use Rattle.gather.specs.Rules.{Hand, rulesOn}
 use Rattle.gather.proofs.ReadingLaws.{whole-short}
 use Rattle.demands.proofs.MeetsThree.Events.{complete}

@@ -1,35 +1,29 @@
 -- Several batches are one flow, and the writer's calls write its transport packets one after another.
 -- Assumes nothing.
-use mathlib.Core.Path.{_≡_, refl, sym, ap, ap₂, _∙_}
-use Prim.Native.Nat.{ℕ, zero, suc, _+_, _*_, _%_, _≤_, _<_}
-use mathlib.Core.Bool.{false, not}
-use mathlib.Core.List.{List, [], _∷_, _++_, append-assoc, append-nil}
-use native.Mathlib.Nat.{zero-add}
+use mathlib.Core.Path.{_≡_, refl, sym, ap, _∙_}
+use Prim.Native.Nat.{ℕ, _+_, _*_, _%_, _<_}
+use mathlib.Core.Bool.{false}
+use mathlib.Core.List.{List, [], _∷_, _++_}
 use native.Mathlib.Omega.{arith}
-use lib.Dec.{eqb}
-use lib.ListN.{length, take, drop, length-append}
+use lib.ListN.{length}
 use lib.Seq.{take-at, drop-at}
 use borrow.Author.Tests.{le-ltb}
 use Rattle.fields.specs.Numbers.{Bytes}
-use Rattle.fields.specs.Parts.{overlay}
 use Rattle.fields.proofs.NumberLaws.{bytes-take, bytes-drop}
-use Rattle.fields.proofs.PartLaws.{overlay-is}
 use Rattle.refusals.specs.Checks.{first}
-use Rattle.refusals.proofs.AnswerLaws.{answer-accepted}
 use Rattle.refusals.proofs.CheckLaws.{first-zero}
 use Rattle.packet.specs.Cut.{AllWhole, Cut, batchFault, joined}
 use Rattle.packet.proofs.LayoutLaws.{size-most}
 use Rattle.packet.proofs.BatchLaws.{fault-none}
 use Rattle.packet.proofs.CutLaws.{cut-all}
-use Rattle.transport.specs.Load.{Load, transportOf}
+use Rattle.transport.specs.Load.{Load}
 use Rattle.transport.specs.Tests.{pidOutside}
-use Rattle.transport.proofs.LoadLaws.{Sound, transport-length}
-use Rattle.carry.specs.Loads.{follows, loadsOf}
+use Rattle.carry.specs.Loads.{loadsOf}
 use Rattle.carry.specs.Carry.{Outcome, numbered, loads, carryChecks, carryOf}
 use Rattle.carry.proofs.BatchLaws.{carriable}
 use Rattle.carry.proofs.Flow.{Flow, done, flow-append}
 use Rattle.carry.proofs.LoadLaws.{flows-of}
-use Rattle.carry.proofs.Theorems.{AllSound, flow-sound, pid-small, flow-stream, counts-run-on}
+use Rattle.carry.proofs.Theorems.{pid-small, flow-stream, counts-run-on}
 use Rattle.demands.specs.Library.{ours}
 use Rattle.demands.specs.Demand3.{Batch, Carriable, AllCarriable, packetsOf, carryAll, CarriesAll}
 use Rattle.demands.specs.Demand2.Carry.{transports}

@@ -8,9 +8,10 @@ use lib.Dec.{ltb}
 use lib.ListN.{length, take, drop, replicate}
 use Rattle.transport.specs.Header.{carriedBy}
 use Rattle.transport.specs.Tests.{pidOutside}
+use Rattle.gather.specs.Calls.{callsBy, lent}
 use Rattle.demands.specs.Library.{Library}
 use Rattle.demands.specs.Route.{Foreign, longestRun, keep}
-use Rattle.demands.specs.Demand3.{Batch, AllCarriable, packetsOf, carryAll, run, Exactly}
+use Rattle.demands.specs.Demand3.{Batch, AllCarriable, packetsOf, carryAll, Exactly}
 
 -- the writer's next transport packet is lost, or it came; the last one that came does so again; another one came
 pub data Event : Type 0 where
@@ -89,4 +90,4 @@ ByEvents lib =
     → (gathering : List ℕ) → 8202 ≤ length gathering
     → (outs : ℕ → List ℕ) → ((n : ℕ) → 8385 ≤ length (outs n))
     → Exactly (complete (packetsOf batches) (byteCame (arrivals es) (carryAll lib pid count batches))) (marks never es)
-    (run lib (lib .start pid .reader) gathering outs (handedIn [] es (carryAll lib pid count batches)))
+    (callsBy (lib .gather) (lib .start pid .reader) gathering (lent outs (handedIn [] es (carryAll lib pid count batches))))

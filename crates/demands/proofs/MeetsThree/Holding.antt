@@ -1,23 +1,22 @@
 -- The reader's state between two calls, tied to its place in the flow.
 -- Assumes nothing.
-use mathlib.Core.Path.{_≡_, refl, sym, ap, _∙_}
+use mathlib.Core.Path.{_≡_, refl, sym, ap}
 use Prim.Native.Nat.{ℕ, zero, suc, _+_, _%_, _≤_, _<_}
-use mathlib.Core.Bool.{Bool, true, false, not}
+use mathlib.Core.Bool.{Bool, true, false}
 use mathlib.Core.List.{List, []}
 use native.Mathlib.Omega.{arith}
-use lib.Dec.{eqb}
 use lib.ListN.{length, take}
 use borrow.Author.Tests.{lt-ltb, le-ltb, ne-eqb}
 use Rattle.packet.specs.Layout.{sizeOf}
 use Rattle.transport.specs.Tests.{pidOutside}
 use Rattle.gather.specs.State.{waitsOutOfStep, unfit, repeats}
 use Rattle.gather.specs.Marks.{lossAlone}
-use Rattle.gather.specs.Rules.{Hand, lost, outOfTurn, ruleOne}
+use Rattle.gather.specs.Rules.{Hand, outOfTurn, ruleOne}
 use Rattle.gather.specs.Gather.{Outcome, inHand}
 use Rattle.gather.specs.declared.Last.{Last}
 use Rattle.gather.specs.declared.Last.the-variants.{Nothing, Count}
 use Rattle.gather.specs.declared.Reader.{Reader}
-use Rattle.gather.proofs.RefusalLaws.{Fit, fit-whole}
+use Rattle.gather.proofs.RefusalLaws.{fit-whole}
 use Rattle.gather.proofs.EnterLaws.{rule-lost}
 use Rattle.gather.proofs.ReadingLaws.{rule-first, rule-next}
 use Rattle.demands.specs.Route.{longestRun}

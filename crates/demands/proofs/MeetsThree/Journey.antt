@@ -6,22 +6,23 @@ use Prim.Native.Nat.{ℕ, suc, _+_, _%_, _≤_, _<_}
 use mathlib.Core.Bool.{Bool, true, false}
 use mathlib.Core.List.{List, [], _∷_, _++_}
 use native.Mathlib.Omega.{arith}
-use lib.ListN.{length, replicate}
+use lib.ListN.{length}
 use borrow.Author.Tests.{eq-eqb}
 use Rattle.packet.specs.Layout.{sizeOf}
 use Rattle.packet.specs.Cut.{Cut}
 use Rattle.packet.proofs.LayoutLaws.{size-least}
 use Rattle.packet.proofs.CutLaws.{cut-nil}
-use Rattle.transport.specs.Header.{countOf, carriedBy}
+use Rattle.transport.specs.Header.{countOf}
 use Rattle.transport.specs.Tests.{pidOutside}
-use Rattle.transport.specs.Load.{Load, loadBytes, transportOf}
-use Rattle.transport.proofs.LoadLaws.{Sound, Found, found}
+use Rattle.transport.specs.Load.{Load, transportOf}
+use Rattle.transport.proofs.LoadLaws.{Found, found}
 use Rattle.carry.specs.Carry.{numbered}
 use Rattle.carry.proofs.Flow.{Way, none, under, Flow, done, flow-way}
 use Rattle.carry.proofs.Theorems.{flow-sound, pid-small, length-numbered}
 use Rattle.gather.specs.Marks.{noMarks}
 use Rattle.gather.specs.State.{fresh, repeats}
 use Rattle.gather.specs.Gather.{Outcome, inHand, refusedOf, gatherOf}
+use Rattle.gather.specs.Calls.{callsOf, lent, handedAll}
 use Rattle.gather.specs.Rules.{ruleOne}
 use Rattle.gather.specs.declared.Marks.{Marks}
 use Rattle.gather.specs.declared.Reader.{Reader}
@@ -29,8 +30,7 @@ use Rattle.gather.specs.declared.Started.{Started}
 use Rattle.gather.proofs.ReadingLaws.{whole-short}
 use Rattle.gather.proofs.StateLaws.{start-taken, fresh-fit}
 use Rattle.demands.specs.Library.{ours}
-use Rattle.demands.specs.Route.{longestRun}
-use Rattle.demands.specs.Demand3.{packetsOf, carryAll, toldBy, run, handedOut, Exactly}
+use Rattle.demands.specs.Demand3.{packetsOf, carryAll, Exactly}
 use Rattle.demands.proofs.MeetsThree.Events.{Event, lost, came, again, other, arrivals, Since, never, since, missed, Allowed, handedIn, byteCame, lossAt, marks, ByEvents}
 use Rattle.demands.proofs.MeetsThree.Due.{dueOf}
 use Rattle.demands.proofs.MeetsThree.Reading.{kept}
@@ -81,16 +81,16 @@ module _ (s : Reader) (t g : List ℕ) (outs : ℕ → List ℕ) (ts ps : List (
   abbrev on : ℕ → List ℕ
   on n = outs (suc n)
 
-  after-refusal : (n : ℕ) → gatherOf s t g (outs 0) ≡ refusedOf s g (outs 0) n → Exactly ps m (run ours s g on ts) → Exactly ps (false ∷ m) (run ours s g outs (t ∷ ts))
+  after-refusal : (n : ℕ) → gatherOf s t g (outs 0) ≡ refusedOf s g (outs 0) n → Exactly ps m (callsOf s g (lent on ts)) → Exactly ps (false ∷ m) (callsOf s g (lent outs (t ∷ ts)))
   after-refusal n e x =
       rw e
       (record {
-        handed = ap (λ (c : Cut). c .packets ++ handedOut (run ours s g on ts)) cut-nil ∙ x .handed;
+        handed = ap (λ (c : Cut). c .packets ++ handedAll (callsOf s g (lent on ts))) cut-nil ∙ x .handed;
         marked = ap (λ (l : List Marks). noMarks ∷ l) (x .marked);
       })
 
   after-call : {pid c : ℕ} {loss ok : Bool} {u : List ℕ} (qs : List (List ℕ)) → Gives pid c qs loss ok u o
-      → Exactly ps m (run ours (o .answer .reader) (o .gathering) on ts) → Exactly (qs ++ ps) (loss ∷ m) (run ours s g outs (t ∷ ts))
+      → Exactly ps m (callsOf (o .answer .reader) (o .gathering) (lent on ts)) → Exactly (qs ++ ps) (loss ∷ m) (callsOf s g (lent outs (t ∷ ts)))
   after-call qs y x =
       record {
         handed = rw (y .handed, x .handed);
@@ -102,7 +102,7 @@ module _ (s : Reader) (t g : List ℕ) (outs : ℕ → List ℕ) (ts ps : List (
 journey : (es : List Event) (pid c : ℕ) (q : Since) (ok : Bool) (u r : List ℕ) (ps : List (List ℕ)) (ls : List Load)
     → pidOutside pid ≡ false → c < 16 → Flow u r ps ls → Small u r ps → Allowed pid q es → length (arrivals es) ≡ length ls
     → (s : Reader) (g : List ℕ) → Tied pid c q ok u s g → (prev : List ℕ) → Again q s prev → (outs : ℕ → List ℕ) → ((n : ℕ) → 8385 ≤ length (outs n))
-    → Exactly (dueOf ok u r ps (byteCame (arrivals es) (numbered pid c ls))) (marks q es) (run ours s g outs (handedIn prev es (numbered pid c ls)))
+    → Exactly (dueOf ok u r ps (byteCame (arrivals es) (numbered pid c ls))) (marks q es) (callsOf s g (lent outs (handedIn prev es (numbered pid c ls))))
 unfolding numbered
 journey [] pid c q ok u r ps [] good k w z a n s g h prev v outs o = record { handed = sym (due-nil ok w); marked = refl }
 journey [] pid c q ok u r ps (l ∷ ls) good k w z a n s g h prev v outs o = absurd (omega arith)

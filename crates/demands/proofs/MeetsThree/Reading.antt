@@ -15,7 +15,7 @@ use Rattle.transport.specs.Load.{Load, plain, start, transportOf}
 use Rattle.transport.proofs.LoadLaws.{Sound}
 use Rattle.carry.proofs.Flow.{Way, none, under}
 use Rattle.gather.specs.Rules as rules
-use Rattle.gather.specs.Rules.{Brought, broughtBy, Hand, waits, handsOut, upToStart, unfinished, rulesOn}
+use Rattle.gather.specs.Rules.{Brought, broughtBy, Hand, upToStart, unfinished, rulesOn}
 use Rattle.gather.proofs.JoinLaws.{passes, strays-in}
 use Rattle.gather.proofs.ReadingLaws.{plainly, starting, brought-plain, brought-start, from-start-joined, plain-out, plain-on, plain-end, stage-end}
 use Rattle.demands.proofs.MeetsThree.Due.{lastOf, last-under}

@@ -11,10 +11,11 @@ use lib.ListN.{length, getD, drop, replicate, length-append, length-replicate, g
 use lib.Seq.{drop-drop, drop-cons, getD-append-add}
 use borrow.Author.Tests.{ltb-true, ltb-false, lt-ltb, le-ltb, eq-eqb, ne-eqb, eqb-true, eqb-false}
 use Rattle.fields.proofs.Cases.{cases}
+use Rattle.gather.specs.Calls.{callsBy, lent}
 use Rattle.demands.specs.Library.{Library}
 use Rattle.demands.specs.Route.{Item, writers, Latest, nothing, number, Route, inputs, arrives, due, gapBefore, lossMarks}
 use Rattle.demands.specs.Route as route
-use Rattle.demands.specs.Demand3.{packetsOf, carryAll, run, Exactly, GathersExactly}
+use Rattle.demands.specs.Demand3.{packetsOf, carryAll, Exactly, GathersExactly}
 use Rattle.demands.proofs.MeetsThree.Events.{Event, lost, came, again, other, arrivals, Since, never, since, missed, Allowed, handedIn, byteCame, complete, lossAt, marks, ByEvents}
 use Rattle.demands.proofs.MeetsThree.Carriers.{complete-due}
 
@@ -193,7 +194,7 @@ by-routes lib d pid count good k batches f is r g b outs o =
     let ts : List (List ℕ) = carryAll lib pid count batches in
     let n : ℕ = length (carryAll lib pid count batches) in
     let es : List Event = eventsOf (length (carryAll lib pid count batches)) 0 is in
-    let m : Exactly (complete (packetsOf batches) (byteCame (arrivals es) ts)) (marks never es) (run lib (lib .start pid .reader) g outs (handedIn [] es ts)) =
+    let m : Exactly (complete (packetsOf batches) (byteCame (arrivals es) ts)) (marks never es) (callsBy (lib .gather) (lib .start pid .reader) g (lent outs (handedIn [] es ts))) =
     d pid count good k batches f es (route-allowed pid n nothing is r) (route-length pid n nothing is r (omega arith) ∙ omega arith) g b outs o in
     let x : complete (packetsOf batches) (byteCame (arrivals es) ts) ≡ due (arrives is) ts 0 (packetsOf batches) =
     complete-due ts (arrivals es) (arrives is) (λ i l. route-arrives pid n nothing is i r ∙ ap (arrives is) (zero-add i)) 0 (packetsOf batches) in

@@ -1,7 +1,7 @@
 -- A call of our reader with one of the writer's transport packets, and a call that is refused.
 -- Assumes nothing.
 use mathlib.Core.Path.{_≡_, refl, sym, ap, _∙_}
-use mathlib.Core.Logic.{_⊎_, inl, inr}
+use mathlib.Core.Logic.{inl, inr}
 use Prim.Native.Nat.{ℕ, _≤_, _<_}
 use mathlib.Core.Bool.{Bool, true, false}
 use mathlib.Core.List.{List, _++_}
@@ -18,7 +18,8 @@ use Rattle.carry.proofs.Theorems.{pid-small}
 use Rattle.gather.specs.State.{repeats, gatherChecks}
 use Rattle.gather.specs.Marks.{lossAlone}
 use Rattle.gather.specs.Rules.{Brought, broughtBy, Hand, ruleOne, rulesOn}
-use Rattle.gather.specs.Gather.{Outcome, inHand, refusedOf, resultOf, takenOf, gatherOf}
+use Rattle.gather.specs.Gather.{Outcome, inHand, answerOf, refusedOf, resultOf, takenOf, gatherOf}
+use Rattle.gather.specs.Calls.{handedBy}
 use Rattle.gather.specs.declared.Last.the-variants.{Count}
 use Rattle.gather.specs.declared.Reader.{Reader}
 use Rattle.gather.specs.declared.Gathered.{Gathered}
@@ -27,7 +28,6 @@ use Rattle.gather.proofs.GatherLaws.{gather-refused, gather-taken}
 use Rattle.gather.proofs.HandedLaws.{taken-cut, taken-holds}
 use Rattle.gather.proofs.ReadingLaws.{writers-passes, accepted, taken-room, taken-answer}
 use Rattle.demands.specs.Route.{Foreign}
-use Rattle.demands.specs.Demand3.{toldBy, handedBy}
 use Rattle.demands.proofs.MeetsThree.Events.{Since, lossAt}
 use Rattle.demands.proofs.MeetsThree.Reading.{kept, Has, Reads, brings, brought}
 use Rattle.demands.proofs.MeetsThree.Holding.{Tied, Enters, Leaves}
@@ -36,7 +36,7 @@ use Rattle.demands.proofs.MeetsThree.Holding.{Tied, Enters, Leaves}
 
 pub record Gives (pid c : ℕ) (ps : List (List ℕ)) (loss ok : Bool) (u : List ℕ) (o : Outcome) : Type 0 where
   pub leaves : Leaves pid c ok u o
-  pub handed : handedBy (toldBy o) ≡ ps
+  pub handed : handedBy o ≡ ps
   pub marks : o .answer .marks ≡ lossAlone loss
 
 module _ (s : Reader) (t g o : List ℕ) (pid c : ℕ) (own : s .pid ≡ pid) (count : broughtBy t .count ≡ c) (room : 8202 ≤ length g) where
@@ -47,15 +47,8 @@ module _ (s : Reader) (t g o : List ℕ) (pid c : ℕ) (own : s .pid ≡ pid) (c
   a = takenOf s t g o .answer
 
   -- a mark, or another part of the answer
-  told : {A : Type 0} (f : Gathered → A) → f a ≡ f (record {
-    refusal = 0;
-    reader = record { pid = s .pid; last = Count (broughtBy t .count); «in_step» = h .step; waiting = length (h .waiting) };
-    bytes = a .bytes;
-    packets = a .packets;
-    marks = h .marks;
-  })
-  unfolding takenOf
-  told f = refl
+  told : {A : Type 0} (f : Gathered → A) → f a ≡ f (answerOf (s .pid) (broughtBy t .count) h)
+  told f = ap f (taken-answer s t g o)
 
   next-state : (ok : Bool) (u : List ℕ) → Has ok u h → a .reader ≡ record { pid = pid; last = Count c; «in_step» = ok; waiting = length (kept ok u) }
   next-state ok u x =

@@ -1,24 +1,18 @@
 -- The transport packets in our writer's output are those of the loads, so that carry's theorems hold of the bytes written.
 -- Assumes nothing.
 use mathlib.Core.Path.{_≡_, refl, sym, ap, ap₂, _∙_}
-use mathlib.Core.Bool.{false}
 use mathlib.Core.List.{List, [], _∷_, _++_, map, append-assoc}
-use Prim.Native.Nat.{ℕ, suc, _+_, _-_, _%_, _<_}
+use Prim.Native.Nat.{ℕ, _+_, _-_, _%_, _<_}
 use native.Mathlib.Omega.{arith}
-use lib.Dec.{ltb, lit<}
-use lib.ListN.{length, drop, length-append}
-use lib.Seq.{take-at, drop-at, getD-at}
-use borrow.Author.Tests.{ltb-false}
+use lib.ListN.{length, drop}
+use lib.Seq.{take-at, drop-at}
 use Rattle.fields.specs.Parts.{overlay}
-use Rattle.fields.proofs.Cases.{cases, true≢false}
 use Rattle.refusals.specs.Checks.{first}
 use Rattle.refusals.proofs.AnswerLaws.{answer-accepted}
 use Rattle.packet.specs.Cut.{joined}
 use Rattle.packet.proofs.BatchLaws.{sound}
-use Rattle.transport.specs.Header.{pointerOf}
-use Rattle.transport.specs.Load.{Load, plain, start, headBytes, transportOf}
-use Rattle.transport.specs.Tests.{pidOutside}
-use Rattle.transport.proofs.LoadLaws.{Sound, Found, found, length-head, head-payload}
+use Rattle.transport.specs.Load.{Load, plain, start, transportOf}
+use Rattle.transport.proofs.LoadLaws.{Sound, Found, found}
 use Rattle.carry.specs.Carry.{Outcome, packetsOf, loads, numbered, carryChecks, carryOf}
 use Rattle.carry.specs.Theorems.{Packets}
 use Rattle.carry.proofs.BatchLaws.{Carriable, carriable}

@@ -55,7 +55,7 @@ abbrev pub zeros-mip : List ℕ
 zeros-mip = 0x47 ∷ 0x60 ∷ 0x15 ∷ 0x10 ∷ 0 ∷ 19 ∷ (replicate 15 0 ++ (0x5B ∷ 0x53 ∷ 0xCE ∷ 0x34 ∷ replicate 163 0xFF))
 
 pub good-mip : first (mip.readChecks zeros-mip) ≡ 0
-unfolding mip.readChecks mip.addressingOf mipLayout.parametersOf field faultOf faultIn entriesIn entriesBy part number pack unpack crcHolds crcOf run feed bitAt shift
+unfolding mip.readChecks mip.addressingOf mipLayout.parametersOf headerField faultOf faultIn entriesIn entriesBy part number pack unpack crcHolds crcOf run feed bitAt shift
 good-mip = refl
 
 pub good-time : first (function.readChecks 0 (0xFF ∷ 0xFF ∷ [])) ≡ 0

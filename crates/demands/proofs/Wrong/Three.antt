@@ -1,8 +1,8 @@
 -- Wrong libraries that demand 3 refuses: each is ours but for one operation, and is refuted by one short journey.
 -- Assumes nothing.
-use mathlib.Core.Path.{_≡_, refl, sym, ap, _∙_}
-use Prim.Native.Nat.{ℕ, zero, suc, _+_, _%_, _≤_, _<_}
-use mathlib.Core.Bool.{Bool, true, false, cond, _&&_}
+use mathlib.Core.Path.{_≡_, refl, sym, ap}
+use Prim.Native.Nat.{ℕ, zero, suc, _+_, _<_}
+use mathlib.Core.Bool.{Bool, true, false, _&&_}
 use mathlib.Core.List.{List, [], _∷_, _++_}
 use native.Mathlib.Omega.{arith}
 use lib.Dec.{ltb, lit<}
@@ -15,7 +15,7 @@ use Rattle.fields.proofs.Cases.{and-left, and-right, true≢false}
 use Rattle.refusals.specs.Answers.{answer}
 use Rattle.crc.specs.Crc as crc
 use Rattle.packet.specs.Layout.{sizeOf}
-use Rattle.packet.specs.Cut.{Whole, judgeOf, cutBy, cut, batchFault, joined}
+use Rattle.packet.specs.Cut.{judgeOf, cutBy, cut, batchFault, joined}
 use Rattle.transport.specs.Header as transport
 use Rattle.transport.specs.Tests.{pidOutside, fieldLong, pointerBeyond, transportChecks}
 use Rattle.transport.specs.Load.{plain, headBytes, transportOf}
@@ -27,13 +27,14 @@ use Rattle.gather.specs.Rules.{broughtBy, ruleOne, joining, upToStart, fromStar
 use Rattle.gather.specs.Gather as gathering
 use Rattle.gather.specs.Gather.{joiners, takenOf, gatherOf, refusedOf}
 use Rattle.gather.specs.declared.Marks.{Marks}
+use Rattle.gather.specs.Calls.{callsBy, lent}
 use Rattle.gather.specs.declared.Last.{Last}
 use Rattle.gather.specs.declared.Last.the-variants.{Nothing, Count}
 use Rattle.gather.specs.declared.Reader.{Reader}
-use Rattle.demands.specs.Library.{Library, ours}
+use Rattle.demands.specs.Library.{Library}
 use Rattle.demands.specs.Demand2.Carry.{transportsIn}
 use Rattle.demands.specs.Route.{Item, writers, again, Route, nothing, due, arrives, lossMarks, inputs}
-use Rattle.demands.specs.Demand3.{Batch, Carriable, AllCarriable, packetsOf, carryAll, run, Exactly, Demand3}
+use Rattle.demands.specs.Demand3.{Batch, Carriable, AllCarriable, packetsOf, carryAll, Exactly, Demand3}
 use Rattle.demands.proofs.Wrong.Changed.{five, buffer, space, carriedBy, gatheredBy}
 
 -- ---- a journey: one small packet in each batch
@@ -56,12 +57,12 @@ unfolding joined sizeOf crc.crcHolds crc.crcOf crc.run crc.feed crc.bitAt crc.sh
 good = record { whole = (record { size = refl; crc = refl }, tt); bytes = bytes-by five refl; short = omega arith; room = omega arith }
 
 -- PID 256, counts from 0 on, over this route
-abbrev Told : Library → List Batch → List Item → Type 0
-Told lib bs is =
+abbrev Journeyed : Library → List Batch → List Item → Type 0
+Journeyed lib bs is =
     Exactly (due (arrives is) (carryAll lib 256 0 bs) 0 (packetsOf bs)) (lossMarks nothing is)
-    (run lib (lib .start 256 .reader) buffer (λ n. space) (inputs (carryAll lib 256 0 bs) is))
+    (callsBy (lib .gather) (lib .start 256 .reader) buffer (lent (λ n. space) (inputs (carryAll lib 256 0 bs) is)))
 
-journey : (lib : Library) → Demand3 lib → (bs : List Batch) → AllCarriable bs → (is : List Item) → Route 256 (length (carryAll lib 256 0 bs)) nothing is → Told lib bs is
+journey : (lib : Library) → Demand3 lib → (bs : List Batch) → AllCarriable bs → (is : List Item) → Route 256 (length (carryAll lib 256 0 bs)) nothing is → Journeyed lib bs is
 unfolding pidOutside
 journey lib d bs f is r =
     d .exactly 256 0 refl (omega arith) bs f is r buffer (omega (arith, length-replicate {A = ℕ} 8202 0)) (λ n. space) (λ n. omega (arith, length-replicate {A = ℕ} 8385 9))

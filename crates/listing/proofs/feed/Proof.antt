@@ -7,13 +7,14 @@ use mathlib.Core.Path.{sym, _∙_}
 use mathlib.Core.List.{[]}
 use native.Mathlib.Omega.{arith}
 use Rattle.fields.proofs.Cases.{true≢false}
-use Rattle.lines.specs.Theorems.{Run, runOf, Piece}
+use Rattle.gather.specs.Calls.{Call}
+use Rattle.lines.specs.Theorems.{Run, runOf}
 use Rattle.lines.proofs.RunLaws.{fed-first, fed-again}
 use Rattle.listing.proofs.feed.Statement.{statement}
 use Rattle.listing.proofs.feed.Tie as tie
 
 -- the piece, and where the listing stands
-abbrev piece : tie.Start → Piece
+abbrev piece : tie.Start → Call
 piece s = record { transport = now (s .args .piece); output = now (s .args .output) }
 
 abbrev run : tie.Start → Run

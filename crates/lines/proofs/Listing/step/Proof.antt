@@ -10,8 +10,9 @@ use mathlib.Core.Bool.{true}
 use Prim.Native.Nat.{_+_, _*_, _≤_}
 use native.Mathlib.Omega.{arith}
 use Rattle.gather.specs.Gather.{Outcome}
+use Rattle.gather.proofs.CallLaws.{call-within}
 use Rattle.lines.specs.Listing.{roomy}
-use Rattle.lines.proofs.StepLaws.{step-full, step-made, bytes-within}
+use Rattle.lines.proofs.StepLaws.{step-full, step-made}
 use Rattle.lines.proofs.Listing.step.Statement.{statement}
 use Rattle.lines.proofs.Listing.step.Tie as tie
 
@@ -28,7 +29,7 @@ inside : (m : tie.After-gather) → m .gather .result .bytes ≤ length (m .gath
 inside m =
     let a = m .before .before .before .before .before .before .before .before .before .before .args in
     rw (ap (λ (x : Outcome). x .answer .bytes) (m .gather .ensures), ap (λ (x : Outcome). x .output) (m .gather .ensures))
-    (bytes-within (a .self .reader) (now (a .transport)) (now (a .gathering)) (now (a .output)))
+    (call-within (a .self .reader) (now (a .transport)) (now (a .gathering)) (now (a .output)))
 
 has-room-requires : tie.Need-has-room-requires
 has-room-requires c κs = search needs
