@@ -143,7 +143,7 @@ gatheredNothing old gathering output n =
     }
 
 -- s is the old state, t the transport packet, g the gathering buffer and o the output. A packet has at most 8,202 bytes, so
--- no call writes further into the gathering buffer; and no caller is handed a state that the next call refuses as 38. The
+-- no call writes further into the gathering buffer; and a fit state stays fit: the next call does not refuse it as 38. The
 -- premises say what every slice is: its elements are bytes, on which the length of a packet stands
 pub record Gathers (s : Reader) (t g o : List ℕ) (x : gathering.Outcome) : Type 0 where
   pub answers : Answers (gatherChecks s t (length g) (length o)) (λ (y : gathering.Outcome). y .answer .refusal) (gatheredNothing s g o) x

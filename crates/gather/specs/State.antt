@@ -29,7 +29,7 @@ startOf pid =
     (λ n. record { refusal = n; reader = noReader })
     (record { refusal = 0; reader = fresh pid })
 
--- ---- 38: a state that no reader is in
+-- ---- 38: an unfit state, which no accepted call gives
 
 abbrev pub countOver : Last → Bool
 countOver Nothing = false

@@ -365,7 +365,7 @@ fn with_start(
 }
 
 impl Reader {
-    // Whether no call could have handed this state back.
+    // Whether a state is unfit (38). No accepted call gives such a one; a refused call hands back what it was handed.
     fn is_unfit(self) -> bool
         ensures { λ r. ⌜ r ≡ unfit self ⌝ }
     {
