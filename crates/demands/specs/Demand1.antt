@@ -37,6 +37,7 @@ use Rattle.mip.specs.Write as mipWriting
 use Rattle.mip.specs.Timing.{emissionChecks, extraChecks}
 use Rattle.mip.specs.declared.Mip.{Mip}
 use Rattle.mip.specs.declared.MipRead.{MipRead}
+use Rattle.mip.specs.declared.Steps.{Steps}
 use Rattle.mip.specs.declared.Time.{Time}
 use Rattle.transport.specs.Tests.{pidOutside}
 use Rattle.carry.specs.Carry as carrying
@@ -169,8 +170,8 @@ pub record Demand1 (l : Library) : Type 0 where
   pub mipRead : (p : List ℕ) → Answers (mip.readChecks p) (λ (r : MipRead). r .refusal) noMip (l .mipRead p)
   pub mipAddressing : (p : List ℕ) → Refuses (mip.readChecks p) → l .mipAddressing p ≡ []
   pub mipWrite : (m : Mip) (d out : List ℕ) → Writes (mipWriting.writeChecks m d (length out)) out (l .mipWrite m d out)
-  pub emission : (stamp delay : ℕ) (offset : ℤ) → Answers (emissionChecks stamp delay offset) (λ (t : Time). t .refusal) noTime (l .emission stamp delay offset)
-  pub extraDelay : (stamp delay : ℕ) (offset : ℤ) (reception : ℕ)
+  pub emission : (stamp delay : Steps) (offset : ℤ) → Answers (emissionChecks stamp delay offset) (λ (t : Time). t .refusal) noTime (l .emission stamp delay offset)
+  pub extraDelay : (stamp delay : Steps) (offset : ℤ) (reception : Steps)
       → Answers (extraChecks stamp delay offset reception) (λ (t : Time). t .refusal) noTime (l .extraDelay stamp delay offset reception)
   pub carry : (pid count : ℕ) (batch out : List ℕ) → Carries (carrying.carryChecks pid count batch (length out)) out (l .carry pid count batch out)
   pub start : (pid : ℕ) → Starts pid (l .start pid)

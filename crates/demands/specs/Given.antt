@@ -21,6 +21,7 @@ use Rattle.mip.specs.Read as mip
 use Rattle.mip.specs.Write as mipWriting
 use Rattle.mip.specs.Timing.{emissionChecks, extraChecks}
 use Rattle.mip.specs.declared.Mip.{Mip}
+use Rattle.mip.specs.declared.Steps.{Steps}
 use Rattle.transport.specs.Tests.{pidOutside}
 use Rattle.carry.specs.Carry as carrying
 use Rattle.gather.specs.State.{gatherChecks}
@@ -44,5 +45,5 @@ pub record Given : Type 0 where
   pub walk : (own : ℕ) (d : List ℕ) (tx place : ℕ) → Exactly (walkChecks own d tx place)
   pub mipRead : (p : List ℕ) → Exactly (mip.readChecks p)
   pub mipWrite : (m : Mip) (d : List ℕ) (room : ℕ) → Exactly (mipWriting.writeChecks m d room)
-  pub emission : (stamp delay : ℕ) (offset : ℤ) → Exactly (emissionChecks stamp delay offset)
-  pub extraDelay : (stamp delay : ℕ) (offset : ℤ) (reception : ℕ) → Exactly (extraChecks stamp delay offset reception)
+  pub emission : (stamp delay : Steps) (offset : ℤ) → Exactly (emissionChecks stamp delay offset)
+  pub extraDelay : (stamp delay : Steps) (offset : ℤ) (reception : Steps) → Exactly (extraChecks stamp delay offset reception)

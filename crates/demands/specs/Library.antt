@@ -1,11 +1,12 @@
 -- A library: what each operation of 01 does, as functions on lists and numbers. `ours` is made of the very definitions that
 -- the contracts of our functions cite; the demands are stated of any library.
 use mathlib.Core.Path.{_≡_}
-use Prim.Native.Nat.{ℕ, _+_, _%_, _<_}
+use Prim.Native.Nat.{ℕ, _<_}
 use mathlib.Core.List.{List}
 use lib.IntN.{ℤ}
 use Rattle.refusals.specs.Answers.{Wrote}
 use Rattle.crc.specs.Crc.{crcOf}
+use Rattle.packet.specs.Layout.{countAfter}
 use Rattle.packet.specs.Read as packet
 use Rattle.packet.specs.Write as packetWriting
 use Rattle.packet.specs.declared.Header.{Header}
@@ -30,6 +31,7 @@ use Rattle.mip.specs.Write as mipWriting
 use Rattle.mip.specs.Timing.{emissionOf, extraOf}
 use Rattle.mip.specs.declared.Mip.{Mip}
 use Rattle.mip.specs.declared.MipRead.{MipRead}
+use Rattle.mip.specs.declared.Steps.{Steps}
 use Rattle.mip.specs.declared.Time.{Time}
 use Rattle.carry.specs.Carry as carrying
 use Rattle.gather.specs.State.{startOf}
@@ -64,17 +66,13 @@ pub record Library : Type 0 where
   pub mipAddressing : List ℕ → List ℕ
   pub mipWrite : Mip → List ℕ → List ℕ → Wrote
   -- site timing: of stamp, maximum delay and offset; and of these and the reception time
-  pub emission : ℕ → ℕ → ℤ → Time
-  pub extraDelay : ℕ → ℕ → ℤ → ℕ → Time
+  pub emission : Steps → Steps → ℤ → Time
+  pub extraDelay : Steps → Steps → ℤ → Steps → Time
   -- carriage: the batch writer (PID, first count, batch, output), a fresh reader of a PID, and gathering (state, transport
   -- packet, gathering buffer, output)
   pub carry : ℕ → ℕ → List ℕ → List ℕ → carrying.Outcome
   pub start : ℕ → Started
   pub gather : Reader → List ℕ → List ℕ → List ℕ → gathering.Outcome
-
--- from 255 on to 0
-abbrev pub countAfter : ℕ → ℕ
-countAfter n = (n + 1) % 256
 
 abbrev pub ours : Library
 ours =
@@ -124,8 +122,8 @@ pub record Alike (a b : Library) : Type 0 where
   pub mipRead : (p : List ℕ) → a .mipRead p ≡ b .mipRead p
   pub mipAddressing : (p : List ℕ) → a .mipAddressing p ≡ b .mipAddressing p
   pub mipWrite : (m : Mip) (d out : List ℕ) → a .mipWrite m d out ≡ b .mipWrite m d out
-  pub emission : (stamp delay : ℕ) (offset : ℤ) → a .emission stamp delay offset ≡ b .emission stamp delay offset
-  pub extraDelay : (stamp delay : ℕ) (offset : ℤ) (reception : ℕ) → a .extraDelay stamp delay offset reception ≡ b .extraDelay stamp delay offset reception
+  pub emission : (stamp delay : Steps) (offset : ℤ) → a .emission stamp delay offset ≡ b .emission stamp delay offset
+  pub extraDelay : (stamp delay : Steps) (offset : ℤ) (reception : Steps) → a .extraDelay stamp delay offset reception ≡ b .extraDelay stamp delay offset reception
   pub carry : (pid count : ℕ) (batch out : List ℕ) → a .carry pid count batch out ≡ b .carry pid count batch out
   pub start : (pid : ℕ) → a .start pid ≡ b .start pid
   pub gather : (s : Reader) (t g o : List ℕ) → a .gather s t g o ≡ b .gather s t g o

@@ -14,30 +14,31 @@ use Rattle.refusals.proofs.CheckLaws.{none-holds, first-front, first-behind}
 use Rattle.refusals.proofs.AnswerLaws.{answer-accepted, answer-refused, answer-shows}
 use Rattle.mip.proofs.ModuloLaws.{modulo-lt, modulo-modulo}
 use Rattle.mip.specs.Layout.{second}
-use Rattle.mip.specs.Timing.{modulo, over, emitted, held, emissionChecks, extraChecks, time, timed, emissionOf, extraOf}
+use Rattle.mip.specs.Timing.{modulo, steps, over, emitted, held, emissionChecks, extraChecks, time, timed, emissionOf, extraOf}
+use Rattle.mip.specs.declared.Steps.{Steps}
 use Rattle.mip.specs.declared.Time.{Time}
 
 -- ---- an operation that gives a time
 
-module _ (checks : List Check) (steps : ℕ) where
-  timed-shows : timed checks steps .refusal ≡ first checks
-  timed-shows = answer-shows checks _ _ (λ (t : Time). t .refusal) (λ n. refl) refl
+module _ (checks : List Check) (t : Steps) where
+  timed-shows : timed checks t .refusal ≡ first checks
+  timed-shows = answer-shows checks _ _ (λ (x : Time). x .refusal) (λ n. refl) refl
 
-  timed-accepted : first checks ≡ 0 → timed checks steps ≡ time 0 steps
+  timed-accepted : first checks ≡ 0 → timed checks t ≡ time 0 t
   timed-accepted z = answer-accepted checks _ _ z
 
-  timed-refused : (first checks ≡ 0 → ⊥) → timed checks steps ≡ time (first checks) 0
+  timed-refused : (first checks ≡ 0 → ⊥) → timed checks t ≡ time (first checks) (steps 0)
   timed-refused z = answer-refused checks _ _ z
 
-  timed-below : steps < second → timed checks steps .steps .0 < second
+  timed-below : t .0 < second → timed checks t .steps .0 < second
   timed-below h =
       cases (eqb (first checks) 0)
-      (λ t. rw (timed-accepted (eqb-true _ _ t)) h)
-      (λ t. rw (timed-refused (eqb-false _ _ t)) (lit< tt))
+      (λ e. rw (timed-accepted (eqb-true _ _ e)) h)
+      (λ e. rw (timed-refused (eqb-false _ _ e)) (lit< tt))
 
 -- ---- emission
 
-module _ (stamp delay : ℕ) (offset : ℤ) where
+module _ (stamp delay : Steps) (offset : ℤ) where
   pub emission-shows : emissionOf stamp delay offset .refusal ≡ first (emissionChecks stamp delay offset)
   unfolding emissionOf
   emission-shows = timed-shows (emissionChecks stamp delay offset) _
@@ -47,7 +48,7 @@ module _ (stamp delay : ℕ) (offset : ℤ) where
   emission-accepted z = timed-accepted (emissionChecks stamp delay offset) _ z
 
   -- a refusal gives no time
-  pub emission-refused : (first (emissionChecks stamp delay offset) ≡ 0 → ⊥) → emissionOf stamp delay offset ≡ time (first (emissionChecks stamp delay offset)) 0
+  pub emission-refused : (first (emissionChecks stamp delay offset) ≡ 0 → ⊥) → emissionOf stamp delay offset ≡ time (first (emissionChecks stamp delay offset)) (steps 0)
   unfolding emissionOf
   emission-refused z = timed-refused (emissionChecks stamp delay offset) _ z
 
@@ -57,7 +58,7 @@ module _ (stamp delay : ℕ) (offset : ℤ) where
 
 -- ---- extra delay
 
-module _ (stamp delay : ℕ) (offset : ℤ) (reception : ℕ) where
+module _ (stamp delay : Steps) (offset : ℤ) (reception : Steps) where
   pub extra-shows : extraOf stamp delay offset reception .refusal ≡ first (extraChecks stamp delay offset reception)
   unfolding extraOf
   extra-shows = timed-shows (extraChecks stamp delay offset reception) _
@@ -66,7 +67,7 @@ module _ (stamp delay : ℕ) (offset : ℤ) (reception : ℕ) where
   unfolding extraOf
   extra-accepted z = timed-accepted (extraChecks stamp delay offset reception) _ z
 
-  pub extra-refused : (first (extraChecks stamp delay offset reception) ≡ 0 → ⊥) → extraOf stamp delay offset reception ≡ time (first (extraChecks stamp delay offset reception)) 0
+  pub extra-refused : (first (extraChecks stamp delay offset reception) ≡ 0 → ⊥) → extraOf stamp delay offset reception ≡ time (first (extraChecks stamp delay offset reception)) (steps 0)
   unfolding extraOf
   extra-refused z = timed-refused (extraChecks stamp delay offset reception) _ z
 
@@ -85,16 +86,16 @@ module _ (stamp delay : ℕ) (offset : ℤ) (reception : ℕ) where
 
   pub extra-early : (first (emissionChecks stamp delay offset) ≡ 0 → ⊥) → extraOf stamp delay offset reception ≡ emissionOf stamp delay offset
   extra-early z =
-      extra-refused (λ e. z (sym (early z) ∙ e)) ∙ ap (λ (n : ℕ). time n 0) (early z) ∙ sym (emission-refused stamp delay offset z)
+      extra-refused (λ e. z (sym (early z) ∙ e)) ∙ ap (λ (n : ℕ). time n (steps 0)) (early z) ∙ sym (emission-refused stamp delay offset z)
 
-  pub extra-late : first (emissionChecks stamp delay offset) ≡ 0 → over reception ≡ true → extraOf stamp delay offset reception ≡ time 37 0
+  pub extra-late : first (emissionChecks stamp delay offset) ≡ 0 → over reception ≡ true → extraOf stamp delay offset reception ≡ time 37 (steps 0)
   extra-late z t =
       let e : first (extraChecks stamp delay offset reception) ≡ 37 = late z ∙ rw t in
-      extra-refused (λ n. let k : _≡_ {A = ℕ} 37 0 = sym e ∙ n in omega arith) ∙ ap (λ (n : ℕ). time n 0) e
+      extra-refused (λ n. let k : _≡_ {A = ℕ} 37 0 = sym e ∙ n in omega arith) ∙ ap (λ (n : ℕ). time n (steps 0)) e
 
   pub extra-passed : first (emissionChecks stamp delay offset) ≡ 0 → over reception ≡ false → extraOf stamp delay offset reception ≡ time 0 (held stamp delay offset reception)
   extra-passed z t = extra-accepted (late z ∙ rw t)
 
   -- as annex B has it: one sum, and one remainder
-  pub held-once : held stamp delay offset reception ≡ modulo (pos (stamp + delay) +ℤ offset -ℤ pos reception) second
-  held-once = modulo-modulo (pos (stamp + delay) +ℤ offset) (negℤ (pos reception)) second (lit< tt)
+  pub held-once : held stamp delay offset reception ≡ steps (modulo (pos (stamp .0 + delay .0) +ℤ offset -ℤ pos (reception .0)) second)
+  held-once = ap steps (modulo-modulo (pos (stamp .0 + delay .0) +ℤ offset) (negℤ (pos (reception .0))) second (lit< tt))

@@ -3,7 +3,7 @@ use Prim.Native.Nat.{ℕ}
 use mathlib.Core.Path.{_≡_}
 use mathlib.Core.List.{List, [], _∷_}
 use lib.IntN.{ℤ, pos, negsuc}
-use Rattle.mip.specs.Timing.{time, emissionOf, extraOf}
+use Rattle.mip.specs.Timing.{steps, time, emissionOf, extraOf}
 
 pub data Row : Type 0 where
   emission : ℕ → ℕ → ℤ → ℕ → Row  -- stamp, maximum delay, offset; emission time
@@ -19,8 +19,8 @@ rows =
 
 -- the operation is not refused, and gives this time
 abbrev pub Holds : Row → Type 0
-Holds (emission stamp delay offset steps) = emissionOf stamp delay offset ≡ time 0 steps
-Holds (extraDelay stamp delay offset reception steps) = extraOf stamp delay offset reception ≡ time 0 steps
+Holds (emission stamp delay offset emitted) = emissionOf (steps stamp) (steps delay) offset ≡ time 0 (steps emitted)
+Holds (extraDelay stamp delay offset reception held) = extraOf (steps stamp) (steps delay) offset (steps reception) ≡ time 0 (steps held)
 
 abbrev pub AllHold : List Row → Type 0
 AllHold [] = Unit

@@ -21,7 +21,7 @@ fn modulo_second(sum: i64) -> u32
 
 // The number of the refusal of an emission time, or 0.
 fn emission_refusal(stamp: Steps, delay: Steps, offset: i32) -> u32
-    ensures { λ r. ⌜ r ≡ first (emissionChecks (stamp .0) (delay .0) offset) ⌝ }
+    ensures { λ r. ⌜ r ≡ first (emissionChecks stamp delay offset) ⌝ }
 {
     if fields::outside(0x8000, offset) {
         return refusals::TOO_WIDE_OR_UNFIT_STATE;
@@ -37,7 +37,7 @@ fn emission_refusal(stamp: Steps, delay: Steps, offset: i32) -> u32
 
 // When the mega-frame that a MIP points at is emitted, within its second.
 pub fn emission(stamp: Steps, delay: Steps, offset: i32) -> Time
-    ensures { λ r. ⌜ r ≡ emissionOf (stamp .0) (delay .0) offset ⌝ }
+    ensures { λ r. ⌜ r ≡ emissionOf stamp delay offset ⌝ }
 {
     let refusal = emission_refusal(stamp, delay, offset);
     if refusal != 0 {
@@ -56,7 +56,7 @@ pub fn emission(stamp: Steps, delay: Steps, offset: i32) -> Time
 
 // How long a site holds back what it received at reception.
 pub fn extra_delay(stamp: Steps, delay: Steps, offset: i32, reception: Steps) -> Time
-    ensures { λ r. ⌜ r ≡ extraOf (stamp .0) (delay .0) offset (reception .0) ⌝ }
+    ensures { λ r. ⌜ r ≡ extraOf stamp delay offset reception ⌝ }
 {
     let emitted = emission(stamp, delay, offset);
     if emitted.refusal != 0 {

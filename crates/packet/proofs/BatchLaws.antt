@@ -1,21 +1,19 @@
 -- How packets back to back are judged, packet by packet, and what those without a fault are: whole packets one after another.
 -- Assumes nothing.
 use mathlib.Core.Path.{_≡_, refl, sym, _∙_}
-use mathlib.Core.Bool.{not}
+use mathlib.Core.Bool.{false}
 use mathlib.Core.List.{List, [], _∷_, append-nil}
 use Prim.Native.Nat.{ℕ, _≤_, _<_}
 use native.Mathlib.Omega.{arith}
 use lib.Dec.{leb, eqb}
 use lib.ListN.{length, take, drop}
-use borrow.Author.Tests.{leb-true, leb-false, eqb-true, ne-eqb, not-false}
+use borrow.Author.Tests.{leb-true, leb-false, eqb-true, ne-eqb}
 use Rattle.crc.specs.Crc.{crcHolds}
 use Rattle.fields.proofs.Cases.{cases}
-use Rattle.refusals.specs.Checks.{_when_}
-use Rattle.refusals.proofs.CheckLaws.{none-holds}
 use Rattle.packet.proofs.LayoutLaws.{size-least}
-use Rattle.packet.proofs.CutLaws.{cut-nil, cut-short, cut-bad, cut-good, cut-all, judged-short, judged-bad, judged-good, cut-cuts}
+use Rattle.packet.proofs.CutLaws.{cut-nil, cut-short, cut-bad, cut-good, cut-all, rest-judged, judged-short, judged-bad, judged-good, cut-cuts}
 use Rattle.packet.specs.Layout.{sizeOf}
-use Rattle.packet.specs.Cut.{AllWhole, cut, joined, judgeOf, batchFault}
+use Rattle.packet.specs.Cut.{AllWhole, cut, joined, judgeOf, judgedNumber, batchFault}
 use Rattle.packet.specs.declared.Judged.{Judged}
 use Rattle.packet.specs.declared.Judged.the-variants.{Short, Bad, Good}
 
@@ -30,8 +28,8 @@ fault-none ps w = rw (cut-all ps w)
 
 -- what the judgement of the first packet makes of the batch
 abbrev pub faultBy : Judged → List ℕ → ℕ
-faultBy Short l = 13
-faultBy Bad l = 14
+faultBy Short l = judgedNumber Short
+faultBy Bad l = judgedNumber Bad
 faultBy (Good n) l = batchFault (drop n l)
 
 -- a good packet lies in the bytes
@@ -51,9 +49,9 @@ judged-as l n =
     (λ t. let h : sizeOf l ≤ length l = leb-true _ _ t in
     cases (crcHolds (take (sizeOf l) l))
     (λ g. record { fault = rw (judged-good l h g, cut-good l h g); lies = rw (judged-good l h g) (size-least l, h) })
-    (λ g. record { fault = rw (judged-bad l h g, cut-bad l h g); lies = rw (judged-bad l h g) tt }))
+    (λ g. record { fault = rw (cut-bad l h g, judged-bad l h g, ne-eqb (length l) 0 (λ e. omega arith)); lies = rw (judged-bad l h g) tt }))
     (λ t. let h : length l < sizeOf l = leb-false _ _ t in
-    record { fault = rw (judged-short l h, cut-short l h, ne-eqb (length l) 0 (λ e. omega arith)); lies = rw (judged-short l h) tt })
+    record { fault = rw (cut-short l h, judged-short l h, ne-eqb (length l) 0 (λ e. omega arith)); lies = rw (judged-short l h) tt })
 
 none : (l : List ℕ) → length l ≡ 0 → l ≡ []
 none [] e = refl
@@ -68,8 +66,8 @@ pub sound : (batch : List ℕ) → batchFault batch ≡ 0 → Sound batch
 unfolding batchFault
 sound batch h =
     let c = cut-cuts batch in
-    let n = none-holds (14 when cut batch .bad ∷ 13 when not (eqb (length (cut batch .rest)) 0) ∷ []) tt h in
-    let e : cut batch .rest ≡ [] = none _ (eqb-true _ _ (not-false _ (n .1 .0))) in
+    let left : eqb (length (cut batch .rest)) 0 ≡ false → ⊥ = λ t. rest-judged batch (rw t at h) in
+    let e : cut batch .rest ≡ [] = cases (eqb (length (cut batch .rest)) 0) (λ t. none _ (eqb-true _ _ t)) (λ t. absurd (left t)) in
     record {
       whole = c .whole;
       bytes = sym (append-nil (joined (cut batch .packets))) ∙ (rw e at (c .bytes));

@@ -4,6 +4,7 @@ use mathlib.Core.Path.{_≡_, refl, sym, ap, _∙_}
 use mathlib.Core.Bool.{Bool, true, false}
 use mathlib.Core.List.{List, [], _∷_, _++_, append-assoc, append-nil}
 use Prim.Native.Nat.{ℕ, zero, suc, _+_, _-_, _≤_, _<_}
+use native.Mathlib.Nat.{suc-ne-zero}
 use native.Mathlib.Omega.{arith}
 use lib.Dec.{leb}
 use lib.ListN.{length, take, drop, length-drop, length-append, take-append-drop}
@@ -13,7 +14,7 @@ use Rattle.crc.specs.Crc.{crcHolds}
 use Rattle.fields.proofs.Cases.{cases}
 use Rattle.packet.proofs.LayoutLaws.{size-least, size-take, size-append}
 use Rattle.packet.specs.Layout.{sizeOf}
-use Rattle.packet.specs.Cut.{Whole, AllWhole, Cut, stop, more, cutBy, cut, joined, judgeOf}
+use Rattle.packet.specs.Cut.{Whole, AllWhole, Cut, stop, more, cutBy, cut, joined, judgeOf, judgedNumber}
 use Rattle.packet.specs.declared.Judged.the-variants.{Short, Bad, Good}
 
 -- ---- with a bound on the packets, case by case
@@ -82,6 +83,22 @@ judged-bad l h b = simp (le-leb (sizeOf l) (length l) h, b)
 pub judged-good : (l : List ℕ) → sizeOf l ≤ length l → crcHolds (take (sizeOf l) l) ≡ true → judgeOf l ≡ Good (sizeOf l)
 unfolding judgeOf
 judged-good l h b = simp (le-leb (sizeOf l) (length l) h, b)
+
+-- what a cut leaves does not begin with a good packet
+rest-by : (k : ℕ) (l : List ℕ) → length l ≤ k → judgedNumber (judgeOf (cutBy k l .rest)) ≡ 0 → ⊥
+rest-by zero l h e =
+    suc-ne-zero 12 (rw (by-short zero l (omega (arith, size-least l)), judged-short l (omega (arith, size-least l))) at e)
+rest-by (suc k) l h e =
+    cases (leb (sizeOf l) (length l))
+    (λ t. let b : sizeOf l ≤ length l = leb-true _ _ t in
+    cases (crcHolds (take (sizeOf l) l))
+    (λ g. rest-by k (drop (sizeOf l) l) (left l k b h) (rw (by-good k l b g) at e))
+    (λ g. suc-ne-zero 13 (rw (by-bad k l b g, judged-bad l b g) at e)))
+    (λ t. suc-ne-zero 12 (rw (by-short (suc k) l (leb-false _ _ t), judged-short l (leb-false _ _ t)) at e))
+
+pub rest-judged : (l : List ℕ) → judgedNumber (judgeOf (cut l .rest)) ≡ 0 → ⊥
+unfolding cut
+rest-judged l e = rest-by (length l) l (omega arith) e
 
 -- ---- what the packets are
 

@@ -2,12 +2,11 @@
 -- reader stand on this definition. Only length and CRC are judged.
 use Prim.Native.Nat.{ℕ, zero, suc}
 use mathlib.Core.Path.{_≡_}
-use mathlib.Core.Bool.{Bool, true, false, cond, not}
+use mathlib.Core.Bool.{Bool, true, false, cond}
 use mathlib.Core.List.{List, [], _∷_, _++_}
 use lib.Dec.{eqb, leb}
 use lib.ListN.{length, take, drop}
 use Rattle.crc.specs.Crc.{crcHolds}
-use Rattle.refusals.specs.Checks.{_when_, first}
 use Rattle.packet.specs.Layout.{sizeOf}
 use Rattle.packet.specs.declared.Judged.{Judged}
 use Rattle.packet.specs.declared.Judged.the-variants.{Short, Bad, Good}
@@ -51,10 +50,16 @@ cutBy (suc k) l =
 unfoldable pub cut : List ℕ → Cut
 cut l = cutBy (length l) l
 
--- what is wrong with bytes that should be whole packets, packet by packet: a wrong CRC (14), or fewer bytes left than a whole
--- packet needs (13); 0 where all are good
+-- the number that each judgement has in a batch: fewer bytes left than a whole packet needs, or a wrong CRC
+abbrev pub judgedNumber : Judged → ℕ
+judgedNumber Short = 13
+judgedNumber Bad = 14
+judgedNumber (Good n) = 0
+
+-- what is wrong with bytes that should be whole packets, packet by packet: what is left behind the good ones is judged; 0 where
+-- nothing is left
 unfoldable pub batchFault : List ℕ → ℕ
-batchFault l = first (14 when cut l .bad ∷ 13 when not (eqb (length (cut l .rest)) 0) ∷ [])
+batchFault l = let rest = cut l .rest in cond (eqb (length rest) 0) 0 (judgedNumber (judgeOf rest))
 
 -- packets one after another
 unfoldable pub joined : List (List ℕ) → List ℕ

@@ -21,6 +21,10 @@ oneOf (t ∷ ts) n = cond (eqb n t) true (oneOf ts n)
 unfoldable pub reservedType : ℕ → Bool
 reservedType n = not (oneOf types n)
 
+-- the packet_count after another: it goes from 255 on to 0
+abbrev pub countAfter : ℕ → ℕ
+countAfter n = (n + 1) % 256
+
 -- the bytes of a payload of so many bits, with its pad
 abbrev pub payloadBytes : ℕ → ℕ
 payloadBytes bits = (bits + 7) / 8

@@ -1,11 +1,10 @@
 // T2-MI packets (002, clause 5.1): their header and payload, read and written, and the cut of packets back to back.
 use refusals::Written;
 ghost use mathlib.Core.Path.{_≡_};
-ghost use Prim.Native.Nat.{_+_, _%_};
 ghost use lib.ListN.{drop};
 ghost use Rattle.fields.specs.Formats.{pack, tooWide};
 ghost use Rattle.refusals.specs.Checks.{first};
-ghost use Rattle.packet.specs.Layout.{header, reservedType, payloadBytes, totalOf, padSet, sizeOf};
+ghost use Rattle.packet.specs.Layout.{header, reservedType, countAfter, payloadBytes, totalOf, padSet, sizeOf};
 ghost use Rattle.packet.specs.Read.{headerOf, reservedSet, readChecks, readOf, payloadRead};
 ghost use Rattle.packet.specs.Write.{fieldsOf, writeChecks, writeOf};
 ghost use Rattle.packet.specs.Cut.{judgeOf, batchFault};
@@ -48,7 +47,7 @@ pub fn total(bits: u32) -> usize
 
 // The packet_count that follows: from 255 it goes on to 0.
 pub fn next_count(count: u8) -> u8
-    ensures { λ r. ⌜ r ≡ (count + 1) % 256 ⌝ }
+    ensures { λ r. ⌜ r ≡ countAfter count ⌝ }
 {
     std::num::wrapping_add_u8(count, 1)
 }

@@ -12,7 +12,7 @@ ghost use Rattle.addressing.specs.Data.{house};
 ghost use Rattle.addressing.specs.Payload.{payloadOf, writeOf as addressingWritten};
 ghost use Rattle.addressing.specs.Walk.{walkOf};
 ghost use Rattle.mip.specs.Read.{readOf as mipRead};
-ghost use Rattle.mip.specs.Timing.{emissionOf, extraOf};
+ghost use Rattle.mip.specs.Timing.{steps, emissionOf, extraOf};
 ghost use Rattle.sfn.specs.Site.{addressingOf, stepOf, walkedOf, StepFits, mipFlat, mipWritten, timeOf};
 
 // What reading an addressing payload gives. Its data begins at byte 2.
@@ -173,7 +173,7 @@ pub extern "C" fn sfn_mip_write(
 
 #[no_mangle]
 pub extern "C" fn sfn_emission(stamp: u32, delay: u32, offset: i32) -> SfnTime
-    ensures { λ r. ⌜ r ≡ timeOf (emissionOf stamp delay offset) ⌝ }
+    ensures { λ r. ⌜ r ≡ timeOf (emissionOf (steps stamp) (steps delay) offset) ⌝ }
 {
     let t = mip::emission(Steps(stamp), Steps(delay), offset);
     SfnTime {
@@ -184,7 +184,7 @@ pub extern "C" fn sfn_emission(stamp: u32, delay: u32, offset: i32) -> SfnTime
 
 #[no_mangle]
 pub extern "C" fn sfn_extra_delay(stamp: u32, delay: u32, offset: i32, reception: u32) -> SfnTime
-    ensures { λ r. ⌜ r ≡ timeOf (extraOf stamp delay offset reception) ⌝ }
+    ensures { λ r. ⌜ r ≡ timeOf (extraOf (steps stamp) (steps delay) offset (steps reception)) ⌝ }
 {
     let t = mip::extra_delay(Steps(stamp), Steps(delay), offset, Steps(reception));
     SfnTime {

@@ -88,8 +88,8 @@ refusing =
       mipRead = λ p. record { refusal = 38; addressing = 0; mip = mip.noMip };
       mipAddressing = λ p. [];
       mipWrite = λ m d out. refused out;
-      emission = λ stamp delay offset. timing.time 38 0;
-      extraDelay = λ stamp delay offset reception. timing.time 38 0;
+      emission = λ stamp delay offset. timing.time 38 (timing.steps 0);
+      extraDelay = λ stamp delay offset reception. timing.time 38 (timing.steps 0);
       carry = λ pid count batch out. record { answer = record { refusal = 38; packets = 0; «next_count» = 0 }; out = out };
       start = λ pid. record { refusal = 38; reader = noReader };
       gather = λ s t buffer out. gathering.refusedOf s buffer out 38;
@@ -118,7 +118,7 @@ each-rejects =
       addressing = λ d. some (ap (λ (r : PayloadRead). r .refusal) (d .reads (0 ∷ 0 ∷ []) refl));
       walks = λ d. some (ap (λ (r : Walked). r .refusal) (d .step [] 1 0 refl));
       mips = λ d. some (ap (λ (r : MipRead). r .refusal) (d .reads zeros-mip good-mip));
-      timing = λ d. some (ap (λ (r : Time). r .refusal) (d .emission 0 0 (pos 0) refl));
+      timing = λ d. some (ap (λ (r : Time). r .refusal) (d .emission (timing.steps 0) (timing.steps 0) (pos 0) refl));
       carriage = λ d. some (ap (λ (r : Started). r .refusal) (d .begins 0x1000 refl));
     }
 

@@ -10,6 +10,7 @@ use Rattle.mip.specs.Read.{readChecks, addressingLength, addressingOf, mipOf}
 use Rattle.mip.specs.Write.{writeChecks, mipBytes}
 use Rattle.mip.specs.Timing.{emissionChecks, emitted, extraChecks, held, time}
 use Rattle.mip.specs.declared.Mip.{Mip}
+use Rattle.mip.specs.declared.Steps.{Steps}
 use Rattle.demands.specs.Library.{Library}
 use Rattle.demands.specs.Demand2.Writing.{laid, writtenBy}
 
@@ -30,8 +31,8 @@ pub record Mips (lib : Library) : Type 0 where
 
 pub record Timing (lib : Library) : Type 0 where
   -- (stamp + maximum delay + offset) modulo 10,000,000
-  pub emission : (stamp delay : ℕ) (offset : ℤ) → first (emissionChecks stamp delay offset) ≡ 0
+  pub emission : (stamp delay : Steps) (offset : ℤ) → first (emissionChecks stamp delay offset) ≡ 0
       → lib .emission stamp delay offset ≡ time 0 (emitted stamp delay offset)
   -- that less the reception time, modulo 10,000,000
-  pub extra : (stamp delay : ℕ) (offset : ℤ) (reception : ℕ) → first (extraChecks stamp delay offset reception) ≡ 0
+  pub extra : (stamp delay : Steps) (offset : ℤ) (reception : Steps) → first (extraChecks stamp delay offset reception) ≡ 0
       → lib .extraDelay stamp delay offset reception ≡ time 0 (held stamp delay offset reception)

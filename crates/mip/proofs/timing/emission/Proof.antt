@@ -14,7 +14,7 @@ use Rattle.refusals.proofs.AnswerLaws.{answer-number}
 use Rattle.mip.proofs.ModuloLaws.{mag-add}
 use Rattle.mip.proofs.TimingLaws.{emission-accepted}
 use Rattle.mip.specs.Layout.{second}
-use Rattle.mip.specs.Timing.{modulo, time, emissionChecks, emissionOf}
+use Rattle.mip.specs.Timing.{modulo, steps, time, emissionChecks, emissionOf}
 use Rattle.mip.proofs.timing.emission.Statement.{statement}
 use Rattle.mip.proofs.timing.emission.Tie as tie
 
@@ -53,10 +53,10 @@ summands : (c : tie.After-struct-known2) → Summands (c .before .before .before
 summands c =
     record { stamp = search needs; delay = search needs; offset = c .before .before .before .before .fits .offset }
 
-judged : (c : tie.After-emission-refusal) → c .emission-refusal .result ≡ first (emissionChecks (c .before .args .stamp .0) (c .before .args .delay .0) (c .before .args .offset))
+judged : (c : tie.After-emission-refusal) → c .emission-refusal .result ≡ first (emissionChecks (c .before .args .stamp) (c .before .args .delay) (c .before .args .offset))
 judged c =
     c .emission-refusal .ensures
-    ∙ ap (λ (z : ℤ). first (emissionChecks (c .before .args .stamp .0) (c .before .args .delay .0) z)) (toZ-ofZ (c .before .fits .offset))
+    ∙ ap (λ (z : ℤ). first (emissionChecks (c .before .args .stamp) (c .before .args .delay) z)) (toZ-ofZ (c .before .fits .offset))
 
 emission-refusal-requires : tie.Need-emission-refusal-requires
 emission-refusal-requires c κs = search needs
@@ -65,7 +65,7 @@ returns : tie.Need-returns
 unfolding emissionOf
 returns c =
     let a = c .before .before .args in
-    answer-number (emissionChecks (a .stamp .0) (a .delay .0) (a .offset)) _ _ _ (judged (c .before)) (c .if1 .taken)
+    answer-number (emissionChecks (a .stamp) (a .delay) (a .offset)) _ _ _ (judged (c .before)) (c .if1 .taken)
 
 cast-sum : tie.Need-cast-sum
 cast-sum c = search needs
@@ -89,8 +89,8 @@ returns-2 : tie.Need-returns-2
 returns-2 c =
     let r = c .before .before .before in
     let a = r .before .before .args in
-    ap (time 0) (c .modulo-second .ensures ∙ ap (λ (z : ℤ). modulo z second) (kept (summands (c .before))))
-    ∙ sym (emission-accepted (a .stamp .0) (a .delay .0) (a .offset) (sym (judged (r .before)) ∙ r .if1 .left))
+    ap (λ (n : ℕ). time 0 (steps n)) (c .modulo-second .ensures ∙ ap (λ (z : ℤ). modulo z second) (kept (summands (c .before))))
+    ∙ sym (emission-accepted (a .stamp) (a .delay) (a .offset) (sym (judged (r .before)) ∙ r .if1 .left))
 
 pub emission-spec : {M : Type 1} → statement M
 emission-spec =

@@ -13,7 +13,7 @@ use Rattle.mip.proofs.timing.emission_refusal.Statement.{statement}
 use Rattle.mip.proofs.timing.emission_refusal.Tie as tie
 
 abbrev checks : tie.Start → List Check
-checks c = emissionChecks (c .args .stamp .0) (c .args .delay .0) (c .args .offset)
+checks c = emissionChecks (c .args .stamp) (c .args .delay) (c .args .offset)
 
 -- a signed argument is passed on as its bits
 offset-judged : (c : tie.After-outside) → c .outside .result ≡ beyondSigned 16 (c .before .args .offset)

@@ -14,7 +14,7 @@ use Rattle.refusals.specs.Checks.{first}
 use Rattle.mip.proofs.ModuloLaws.{mag-sub}
 use Rattle.mip.proofs.TimingLaws.{emission-shows, emission-accepted, extra-early, extra-late, extra-passed}
 use Rattle.mip.specs.Layout.{second}
-use Rattle.mip.specs.Timing.{modulo, emitted, time, emissionChecks, emissionOf}
+use Rattle.mip.specs.Timing.{modulo, steps, emitted, time, emissionChecks, emissionOf}
 use Rattle.mip.specs.declared.Time.{Time}
 use Rattle.mip.proofs.timing.extra_delay.Statement.{statement}
 use Rattle.mip.proofs.timing.extra_delay.Tie as tie
@@ -39,19 +39,19 @@ operands : (c : tie.After-struct-known4) → Operands (c .before .before .before
 operands c = record { emitted = search needs; reception = search needs }
 
 -- what the call said, of the arguments
-timed : (c : tie.After-emission) → c .emission .result ≡ emissionOf (c .before .args .stamp .0) (c .before .args .delay .0) (c .before .args .offset)
+timed : (c : tie.After-emission) → c .emission .result ≡ emissionOf (c .before .args .stamp) (c .before .args .delay) (c .before .args .offset)
 timed c =
-    c .emission .ensures ∙ ap (emissionOf (c .before .args .stamp .0) (c .before .args .delay .0)) (toZ-ofZ (c .before .fits .offset))
+    c .emission .ensures ∙ ap (emissionOf (c .before .args .stamp) (c .before .args .delay)) (toZ-ofZ (c .before .fits .offset))
 
-shown : (c : tie.After-emission) → c .emission .result .refusal ≡ first (emissionChecks (c .before .args .stamp .0) (c .before .args .delay .0) (c .before .args .offset))
+shown : (c : tie.After-emission) → c .emission .result .refusal ≡ first (emissionChecks (c .before .args .stamp) (c .before .args .delay) (c .before .args .offset))
 shown c = ap (λ (t : Time). t .refusal) (timed c) ∙ emission-shows _ _ _
 
-passed : (c : tie.Else1) → first (emissionChecks (c .before .before .before .args .stamp .0) (c .before .before .before .args .delay .0) (c .before .before .before .args .offset)) ≡ 0
+passed : (c : tie.Else1) → first (emissionChecks (c .before .before .before .args .stamp) (c .before .before .before .args .delay) (c .before .before .before .args .offset)) ≡ 0
 passed c = sym (shown (c .before .before)) ∙ c .if1 .left
 
 -- the time that came back
-steps : (c : tie.Else1) → c .before .before .emission .result .steps .0 ≡ emitted (c .before .before .before .args .stamp .0) (c .before .before .before .args .delay .0) (c .before .before .before .args .offset)
-steps c = ap (λ (t : Time). t .steps .0) (timed (c .before .before) ∙ emission-accepted _ _ _ (passed c))
+came : (c : tie.Else1) → c .before .before .emission .result .steps .0 ≡ emitted (c .before .before .before .args .stamp) (c .before .before .before .args .delay) (c .before .before .before .args .offset) .0
+came c = ap (λ (t : Time). t .steps .0) (timed (c .before .before) ∙ emission-accepted _ _ _ (passed c))
 
 emission-requires : tie.Need-emission-requires
 emission-requires c κs = search needs
@@ -60,12 +60,12 @@ returns : tie.Need-returns
 returns c =
     let a = c .before .before .before .args in
     timed (c .before .before)
-    ∙ sym (extra-early (a .stamp .0) (a .delay .0) (a .offset) (a .reception .0) (λ z. c .if1 .taken (shown (c .before .before) ∙ z)))
+    ∙ sym (extra-early (a .stamp) (a .delay) (a .offset) (a .reception) (λ z. c .if1 .taken (shown (c .before .before) ∙ z)))
 
 returns-2 : tie.Need-returns-2
 returns-2 c =
     let a = c .before .before .before .before .before .args in
-    sym (extra-late (a .stamp .0) (a .delay .0) (a .offset) (a .reception .0) (passed (c .before .before)) (le-leb _ _ (c .if2 .taken)))
+    sym (extra-late (a .stamp) (a .delay) (a .offset) (a .reception) (passed (c .before .before)) (le-leb _ _ (c .if2 .taken)))
 
 cast-sum : tie.Need-cast-sum
 cast-sum c = search needs
@@ -83,10 +83,10 @@ returns-3 : tie.Need-returns-3
 returns-3 c =
     let e = c .before .before .before in
     let a = e .before .before .before .before .before .args in
-    ap (time 0)
+    ap (λ (n : ℕ). time 0 (steps n))
     (c .modulo-second .ensures
-    ∙ ap (λ (z : ℤ). modulo z second) (kept (operands (c .before)) ∙ ap (λ (n : ℕ). pos n -ℤ pos (a .reception .0)) (steps (e .before .before))))
-    ∙ sym (extra-passed (a .stamp .0) (a .delay .0) (a .offset) (a .reception .0) (passed (e .before .before)) (lt-leb _ _ (e .if2 .left)))
+    ∙ ap (λ (z : ℤ). modulo z second) (kept (operands (c .before)) ∙ ap (λ (n : ℕ). pos n -ℤ pos (a .reception .0)) (came (e .before .before))))
+    ∙ sym (extra-passed (a .stamp) (a .delay) (a .offset) (a .reception) (passed (e .before .before)) (lt-leb _ _ (e .if2 .left)))
 
 pub extra-delay-spec : {M : Type 1} → statement M
 extra-delay-spec =

@@ -6,7 +6,7 @@ use mir.Syntax.{w32}
 use mir.Val.{toZ, ofZ}
 use mir.ValLaws.{toZ-ofZ}
 use mathlib.Core.Path.{_≡_, ap, _∙_}
-use Rattle.mip.specs.Timing.{extraOf}
+use Rattle.mip.specs.Timing.{steps, extraOf}
 use Rattle.sfn.specs.Site.{timeOf}
 use Rattle.sfn.proofs.site.sfn_extra_delay.Statement.{statement}
 use Rattle.sfn.proofs.site.sfn_extra_delay.Tie as tie
@@ -20,8 +20,8 @@ extra-delay-requires c κs = search needs
 returns : tie.Need-returns
 returns c =
     let a = c .before .args in
-    let e : c .extra-delay .result ≡ extraOf (a .stamp) (a .delay) (toZ w32 (ofZ w32 (a .offset))) (a .reception) = c .extra-delay .ensures in
-    ap timeOf (e ∙ ap (λ (z : ℤ). extraOf (a .stamp) (a .delay) z (a .reception)) (same (c .before)))
+    let e : c .extra-delay .result ≡ extraOf (steps (a .stamp)) (steps (a .delay)) (toZ w32 (ofZ w32 (a .offset))) (steps (a .reception)) = c .extra-delay .ensures in
+    ap timeOf (e ∙ ap (λ (z : ℤ). extraOf (steps (a .stamp)) (steps (a .delay)) z (steps (a .reception))) (same (c .before)))
 
 pub sfn-extra-delay-spec : {M : Type 1} → statement M
 sfn-extra-delay-spec = tie.close (tie.spec extra-delay-requires returns)
