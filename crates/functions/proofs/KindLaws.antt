@@ -76,18 +76,6 @@ carried-is Enable carried h = refl
 carried-is (Bandwidth value wait) carried h = absurd (true≢false (sym h))
 carried-is (Passed tag) carried h = refl
 
--- the other kinds don't look at it
-pub carried-unseen : (f : Function) (a b : List ℕ) → carries f ≡ false → bodyOf f a ≡ bodyOf f b
-unfolding bodyOf
-carried-unseen (TimeOffset t) a b h = refl
-carried-unseen (FrequencyOffset f) a b h = refl
-carried-unseen (Power p) a b h = refl
-carried-unseen Private a b h = absurd (true≢false h)
-carried-unseen (Cell id wait rest) a b h = refl
-carried-unseen Enable a b h = absurd (true≢false h)
-carried-unseen (Bandwidth value wait) a b h = refl
-carried-unseen (Passed tag) a b h = absurd (true≢false h)
-
 -- ---- what an arm of several kinds tells: `placeOf the-type` is a kind's place in the enum
 
 pub arm-carries : (f : Function) → OneOf (3 ∷ 5 ∷ 7 ∷ []) (placeOf the-type f) → carries f ≡ true

@@ -4,13 +4,13 @@ use mathlib.Core.Path.{_≡_, refl, sym, ap, ap₂, _∙_}
 use mathlib.Core.Bool.{false}
 use mathlib.Core.List.{List, [], _∷_, _++_}
 use Prim.Native.Nat.{ℕ, _+_, _*_, _/_, _%_, _^_, _≤_, _<_}
-use native.Mathlib.Nat.{zero-add, div-one}
+use native.Mathlib.Nat.{div-one}
 use native.Mathlib.Omega.{arith}
 use lib.ListN.{length, getD, replicate}
 use borrow.Author.Tests.{ltb-false, eqb-true, not-false}
-use Rattle.fields.specs.Formats.{span, pack, unpack, Fit}
+use Rattle.fields.specs.Formats.{pack, unpack, Fit}
 use Rattle.fields.specs.Numbers.{Bytes, number, bytes}
-use Rattle.fields.specs.Parts.{part, numberAt}
+use Rattle.fields.specs.Parts.{numberAt}
 use Rattle.fields.proofs.FormatLaws.{not-too-wide, unpack-halves, pack-append}
 use Rattle.fields.proofs.PartLaws.{number-at, in-halves}
 use Rattle.refusals.specs.Checks.{first}

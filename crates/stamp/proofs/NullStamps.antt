@@ -2,7 +2,6 @@
 -- Assumes nothing.
 use mathlib.Core.Path.{_≡_, refl, sym, ap, _∙_}
 use mathlib.Core.Bool.{false}
-use mathlib.Core.List.{List, _∷_}
 use Prim.Native.Nat.{ℕ, _+_, _*_, _/_, _%_, _^_, _≤_}
 use native.Mathlib.Omega.{arith}
 use lib.Dec.{lit<}
@@ -16,7 +15,6 @@ use Rattle.stamp.proofs.RoundTrips.{reads}
 use Rattle.stamp.specs.Layout.{format, secondOf, ones, nullStamp, nullBytes, isNull, kindOf, secondReached}
 use Rattle.stamp.specs.Read.{readOf}
 use Rattle.stamp.specs.Write.{fieldsOf, stampBytes}
-use Rattle.stamp.specs.declared.Stamp.{Stamp}
 use Rattle.stamp.specs.declared.Kind.the-variants.{Null}
 
 pub record NullRead (bw : ℕ) : Type 0 where

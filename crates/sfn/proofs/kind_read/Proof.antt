@@ -2,7 +2,7 @@
 -- Assumes nothing.
 use borrow.Author.Needs.{needs}
 use borrow.Author.Tests.{eq-eqb, ne-eqb}
-use mathlib.Core.Path.{_≡_, ap, _∙_}
+use mathlib.Core.Path.{ap, _∙_}
 use Rattle.sfn.specs.Answers.{kindNumber, kindRead}
 use Rattle.sfn.proofs.kind_read.Statement.{statement}
 use Rattle.sfn.proofs.kind_read.Tie as tie

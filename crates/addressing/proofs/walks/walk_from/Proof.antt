@@ -26,7 +26,7 @@ use denote.Laws.{Is, shows}
 use denote.Plain.{uint-makes, uint-vals, uint-tells}
 use denote.Builtin.{u8, u16, usize}
 use denote.Ref.{RefT, NamedLft, now}
-use denote.Signature.{plain, namedLft}
+use denote.Signature.{plain}
 use denote.Slice.{ShrSlice, slice-vals, shr-slice-tells, shr-slice-lawful, shr-slice-copy}
 use denote.Steps.{only, owned, peeks, heard, nothing}
 use denote.Struct.Laws as LL
