@@ -1,0 +1,4 @@
+-- That our door meets the demands.
+pub mod Flat
+pub mod FunctionLaws
+pub mod MeetsOne

@@ -1,0 +1,3 @@
+-- The demands over the functions that C calls.
+pub mod Door
+pub mod Demand1
