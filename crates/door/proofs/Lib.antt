@@ -2,3 +2,4 @@
 pub mod Flat
 pub mod FunctionLaws
 pub mod MeetsOne
+pub mod MeetsThree

@@ -103,7 +103,7 @@ starts pid =
       fit = λ h. rw (start-taken pid h) (fresh-fit pid h);
     }
 
-bit-one : (b : Bool) → ltb 1 (bitOf b) ≡ false
+pub bit-one : (b : Bool) → ltb 1 (bitOf b) ≡ false
 bit-one true = refl
 bit-one false = refl
 
@@ -114,7 +114,7 @@ module _ (r : SfnReader) (t g o : List ℕ) where
   no-state h = rw h
 
   -- what holds of that refusal, and of what `gather` gives, laid out flat, holds of the call
-  either : (P : SfnOutcome → Type 0) → P (gatheredNothing r g o 38)
+  pub either : (P : SfnOutcome → Type 0) → P (gatheredNothing r g o 38)
       → (r .«in_step» ≤ 1 → P (outcomeOf (gathering.gatherOf (readerFrom r) t g o)))
       → P (gatheredBy r t g o)
   either P bad good =
@@ -125,14 +125,14 @@ module _ (r : SfnReader) (t g o : List ℕ) where
   abbrev below-gathers : below.Gathers (readerFrom r) t g o (gathering.gatherOf (readerFrom r) t g o)
   below-gathers = library.meets-one .gather (readerFrom r) t g o
 
-  step-on : r .«in_step» ≤ 1 → ltb 1 (gatheredBy r t g o .answer .reader .«in_step») ≡ false
+  pub step-on : r .«in_step» ≤ 1 → ltb 1 (gatheredBy r t g o .answer .reader .«in_step») ≡ false
   step-on h = rw (← gathered-flat r t g o h) (bit-one (gathering.gatherOf (readerFrom r) t g o .answer .reader .«in_step»))
 
   fit-on : Bytes t → Bytes g → stateUnfit r ≡ false → stateUnfit (gatheredBy r t g o .answer .reader) ≡ false
   fit-on bt bg u =
       cases (ltb 1 (r .«in_step»))
       (λ h. absurd (true≢false (rw h at u)))
-      (λ h. rw (step-on (ltb-false _ _ h), next-state r t g o (ltb-false _ _ h) bt bg) (below-gathers .fit bt bg (rw h at u)))
+      (λ h. rw (step-on (ltb-false _ _ h), next-state r t g o (ltb-false _ _ h)) (below-gathers .fit bt bg (rw h at u)))
 
   gathers : Gathers r t g o (gatheredBy r t g o)
   gathers =

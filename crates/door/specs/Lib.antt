@@ -1,3 +1,4 @@
 -- The demands over the functions that C calls.
 pub mod Door
 pub mod Demand1
+pub mod Demand3

@@ -9,11 +9,13 @@ use native.Mathlib.Omega.{arith}
 use lib.Dec.{eqb}
 use lib.ListN.{length}
 use borrow.Author.Tests.{eqb-true, eqb-false, ne-eqb, le-ltb, ltb-false}
-use Rattle.fields.specs.Numbers.{Bytes}
 use Rattle.fields.proofs.Cases.{cases}
 use Rattle.refusals.specs.Checks.{Check, first}
 use Rattle.refusals.specs.Answers.{answer}
 use Rattle.refusals.proofs.AnswerLaws.{answer-shows, answer-accepted, answer-refused}
+use Rattle.transport.specs.Header.{countOf}
+use Rattle.transport.proofs.HeaderLaws.{count-few}
+use Rattle.gather.specs.Rules.{broughtBy}
 use Rattle.gather.specs.State.{countOver, unfit, gatherChecks}
 use Rattle.gather.specs.Gather.{refusedOf, takenOf, gatherOf}
 use Rattle.gather.specs.declared.Last.{Last}
@@ -21,7 +23,6 @@ use Rattle.gather.specs.declared.Last.the-variants.{Nothing, Count}
 use Rattle.gather.specs.declared.Reader.{Reader}
 use Rattle.gather.proofs.RefusalLaws.{fit-parts}
 use Rattle.gather.proofs.GatherLaws.{gather-refused, gather-taken}
-use Rattle.gather.proofs.StateLaws.{gather-fit}
 use Rattle.sfn.specs.Answers.{bitOf}
 use Rattle.sfn.specs.Reader.{lastFrom, lastOf, readerOf, readerFrom, SfnOutcome, outcomeOf, refusedBy, gatheringChecks, gatheredBy}
 use Rattle.sfn.specs.declared.reader.SfnReader.{SfnReader}
@@ -51,9 +52,18 @@ bit-forth : (b : Bool) → eqb (bitOf b) 1 ≡ b
 bit-forth true = refl
 bit-forth false = refl
 
-pub state-back : (s : Reader) → unfit s ≡ false → readerFrom (readerOf s) ≡ s
-state-back s u =
-    λ i. record { pid = s .pid; last = last-forth (s .last) (fit-parts s u .counted) i; «in_step» = bit-forth (s .«in_step») i; waiting = s .waiting }
+-- and so does any reader's state whose count is one
+pub state-back : (s : Reader) → countOver (s .last) ≡ false → readerFrom (readerOf s) ≡ s
+state-back s c =
+    λ i. record { pid = s .pid; last = last-forth (s .last) c i; «in_step» = bit-forth (s .«in_step») i; waiting = s .waiting }
+
+-- no call gives another: what it takes has a count of four bits
+pub counted-on : (s : Reader) (t g o : List ℕ) → countOver (s .last) ≡ false → countOver (gatherOf s t g o .answer .reader .last) ≡ false
+unfolding takenOf broughtBy
+counted-on s t g o c =
+    cases (eqb (first (gatherChecks s t (length g) (length o))) 0)
+    (λ z. rw (gather-taken s t g o (eqb-true _ _ z)) (le-ltb 15 (countOf t) (omega (arith, count-few t))))
+    (λ z. rw (← gather-refused s t g o (first (gatherChecks s t (length g) (length o))) refl (eqb-false _ _ z)) c)
 
 -- ---- what the C function does is what `gather` does, laid out flat
 
@@ -99,9 +109,9 @@ module _ (r : SfnReader) (t g o : List ℕ) where
         ∙ sym (answer-refused asked (refusedBy r g o) _ (λ e. n (sym asked-on ∙ e))))
 
     -- THE NEXT CALL begins from the state that this one left: C may keep it as it came
-    pub next-state : Bytes t → Bytes g → readerFrom (gatheredBy r t g o .answer .reader) ≡ gatherOf (readerFrom r) t g o .answer .reader
-    next-state bt bg =
+    pub next-state : readerFrom (gatheredBy r t g o .answer .reader) ≡ gatherOf (readerFrom r) t g o .answer .reader
+    next-state =
         ap (λ (x : SfnOutcome). readerFrom (x .answer .reader)) (sym gathered-flat)
         ∙ cases (unfit (readerFrom r))
         (λ u. rw (unfit-kept u) (ap readerFrom (reader-back r h)))
-        (λ u. state-back (gatherOf (readerFrom r) t g o .answer .reader) (gather-fit (readerFrom r) t g o bt bg u))
+        (λ u. state-back (gatherOf (readerFrom r) t g o .answer .reader) (counted-on (readerFrom r) t g o (fit-parts (readerFrom r) u .counted)))
