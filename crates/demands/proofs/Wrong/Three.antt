@@ -49,10 +49,10 @@ bytes-by [] h i = lit< tt
 bytes-by (x ∷ l) h zero = ltb-true x 256 (and-left (ltb x 256) (below l) h)
 bytes-by (x ∷ l) h (suc i) = bytes-by l (and-right (ltb x 256) (below l) h) i
 
-abbrev one : Batch
+abbrev pub one : Batch
 one = record { packets = five ∷ []; out = replicate 188 0 }
 
-good : Carriable one
+pub good : Carriable one
 unfolding joined sizeOf crc.crcHolds crc.crcOf crc.run crc.feed crc.bitAt crc.shift loadsOf loadsBy goneOf
 good = record { whole = (record { size = refl; crc = refl }, tt); bytes = bytes-by five refl; short = omega arith; room = omega arith }
 
