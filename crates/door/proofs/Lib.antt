@@ -2,5 +2,6 @@
 pub mod Flat
 pub mod FunctionLaws
 pub mod MeetsOne
+pub mod Given
 pub mod MeetsThree
 pub mod Wrong

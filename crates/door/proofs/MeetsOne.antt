@@ -38,7 +38,7 @@ use Rattle.demands.proofs.MeetsOne as library
 use Rattle.sfn.specs.Answers.{packetOf, kindRead, stampOf, bitOf, functionOf}
 use Rattle.sfn.specs.Site.{addressingOf, stepOf, walkedOf, mipFlat, mipMade, mipWritten, timeOf}
 use Rattle.sfn.specs.Site as site
-use Rattle.sfn.specs.Reader.{lastFrom, readerFrom, startedOf, SfnOutcome, outcomeOf, gatheredBy}
+use Rattle.sfn.specs.Reader.{lastFrom, readerFrom, startedOf, SfnOutcome, outcomeOf, refusedBy, gatheredBy}
 use Rattle.sfn.specs.declared.SfnPacket.{SfnPacket}
 use Rattle.sfn.specs.declared.SfnStamp.{SfnStamp}
 use Rattle.sfn.specs.declared.SfnFunction.{SfnFunction}
@@ -69,7 +69,7 @@ module _ (count pointer periodic future stamp delay tps : ℕ) (d out : List ℕ
 
   asked-first : first listed ≡ first asked
   unfolding site.mipChecks mipWriting.writeChecks mipChecks
-  asked-first = cases (ltb 163 (length d)) (λ t. rw t) (λ t. rw t)
+  asked-first = cases (ltb 163 (length d)) (λ t. rw t refl) (λ t. rw t refl)
 
   taken-first : ltb 1 periodic ≡ false → first (mipWriting.writeChecks m d (length out)) ≡ first listed
   unfolding site.mipChecks mipWriting.writeChecks
@@ -109,7 +109,7 @@ bit-one false = refl
 
 module _ (r : SfnReader) (t g o : List ℕ) where
   -- a state that stands for none is refused, and handed back
-  no-state : ltb 1 (r .«in_step») ≡ true → gatheredBy r t g o ≡ gatheredNothing r g o 38
+  no-state : ltb 1 (r .«in_step») ≡ true → gatheredBy r t g o ≡ refusedBy r g o 38
   unfolding gatheredBy answer
   no-state h = rw h
 

@@ -4,7 +4,11 @@ use mathlib.Core.Path.{_≡_, refl, sym, ap, ap₂, _∙_}
 use mathlib.Core.Bool.{Bool, false}
 use mathlib.Core.List.{List, [], _∷_, _++_, map}
 use Prim.Native.Nat.{ℕ, _≤_}
-use borrow.Author.Tests.{ltb-false}
+use native.Mathlib.Omega.{arith}
+use lib.ListN.{length, length-append}
+use borrow.Author.Tests.{le-ltb, ltb-false}
+use Rattle.packet.specs.Layout.{sizeOf}
+use Rattle.packet.proofs.LayoutLaws.{size-least, size-append}
 use Rattle.packet.specs.Cut.{cutBy, cut, joined}
 use Rattle.transport.specs.Tests.{pidOutside}
 use Rattle.carry.specs.Theorems.{streamOf}
@@ -20,12 +24,12 @@ use Rattle.demands.specs.Demand3 as below
 use Rattle.demands.specs.Demand3.{Batch}
 use Rattle.demands.specs.Route.{inputs}
 use Rattle.demands.proofs.MeetsThree as library-meets
-use Rattle.sfn.specs.Answers.{bitOf}
+use Rattle.sfn.specs.Answers.{lengthHeld, bitOf}
 use Rattle.sfn.specs.Reader.{readerOf, readerFrom, SfnOutcome, outcomeOf, gatheredBy}
 use Rattle.sfn.specs.declared.reader.SfnReader.{SfnReader}
 use Rattle.sfn.proofs.ReaderLaws.{state-back, gathered-flat, next-state}
 use Rattle.door.specs.Door.{ours}
-use Rattle.door.specs.Demand3.{carryAll, callsBy, handedAll, Told, toldBy, lossAlone, Clean, Exactly, AlwaysClean, CarriesAll, GathersExactly, Demand3}
+use Rattle.door.specs.Demand3.{carryAll, callsBy, handedAll, Told, toldBy, lossAlone, Clean, Exactly, TellsLengths, AlwaysClean, CarriesAll, GathersExactly, Demand3}
 use Rattle.door.proofs.MeetsOne.{bit-one, either, step-on}
 
 -- ---- the writer
@@ -77,6 +81,15 @@ start-back pid h = state-back (startOf pid .reader) (rw (start-taken pid h))
 
 -- ---- DEMAND 3
 
+tells-lengths : TellsLengths ours
+unfolding lengthHeld sizeOf
+tells-lengths =
+    record {
+      first = λ p l w. let s : sizeOf (p ++ l) ≡ length p = size-append p l (omega (arith, w .size, size-least p)) ∙ sym (w .size) in
+          rw (s, le-ltb (length (p ++ l)) (length p) (omega (arith, length-append p l)));
+      none = refl;
+    }
+
 always-clean : AlwaysClean ours
 unfolding cut cutBy joined
 always-clean r t g o =
@@ -96,4 +109,4 @@ gathers-exactly pid count p c bs h is =
     (exactly-flat _ _ _ (library-meets.meets-three .exactly pid count p c bs h is route g room outs spacious)))
 
 pub meets-three : Demand3 ours
-meets-three = record { clean = always-clean; carried = carries-all; exactly = gathers-exactly }
+meets-three = record { clean = always-clean; carried = carries-all; exactly = gathers-exactly; lengths = tells-lengths }

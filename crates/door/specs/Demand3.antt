@@ -6,7 +6,7 @@ use mathlib.Core.Bool.{Bool, false}
 use mathlib.Core.List.{List, [], _∷_, _++_, map}
 use Prim.Native.Nat.{ℕ, _≤_, _<_}
 use lib.ListN.{length, take}
-use Rattle.packet.specs.Cut.{cut, joined}
+use Rattle.packet.specs.Cut.{Whole, cut, joined}
 use Rattle.transport.specs.Tests.{pidOutside}
 use Rattle.carry.specs.Theorems.{streamOf}
 use Rattle.gather.specs.Calls.{Call, lent}
@@ -93,7 +93,14 @@ GathersExactly door =
     → Exactly (due (arrives is) (carryAll door pid count batches) 0 (packetsOf batches)) (lossMarks nothing is)
     (callsBy door (door .start pid .reader) gathering (lent outs (inputs (carryAll door pid count batches) is)))
 
+-- of packets back to back sfn_packet_length tells the first one's length, and of no bytes 0: so C cuts what a call wrote as
+-- `handedBy` does
+pub record TellsLengths (door : Door) : Type 0 where
+  pub first : (p l : List ℕ) → Whole p → door .packetLength (p ++ l) ≡ length p
+  pub none : door .packetLength [] ≡ 0
+
 pub record Demand3 (door : Door) : Type 0 where
   pub clean : AlwaysClean door
   pub carried : CarriesAll door
   pub exactly : GathersExactly door
+  pub lengths : TellsLengths door
