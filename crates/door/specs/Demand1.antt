@@ -5,7 +5,7 @@
 -- as it was handed in; and no lent byte is changed. Without a refusal, beyond the result no lent byte is changed. sfn_crc and
 -- sfn_packet_length have no refusal.
 use mathlib.Core.Path.{_≡_}
-use mathlib.Core.Bool.{Bool, true, false, not, cond, _&&_}
+use mathlib.Core.Bool.{Bool, true, false, not, cond, _&&_, _||_}
 use mathlib.Core.List.{List, [], _∷_}
 use Prim.Native.Nat.{ℕ}
 use lib.Dec.{eqb, leb, ltb}
@@ -119,10 +119,10 @@ bytesUnfit any n = bodyLong n
 
 -- cell and bandwidth have a wait flag, and a cell has reserved bits
 abbrev pub waitWide : ℕ → ℕ → Bool
-waitWide kind wait = cond (eqb kind 4) (ltb 1 wait) (cond (eqb kind 6) (ltb 1 wait) false)
+waitWide kind wait = (eqb kind 4 || eqb kind 6) && ltb 1 wait
 
 abbrev pub reservedWide : ℕ → ℕ → Bool
-reservedWide kind reserved = cond (eqb kind 4) (tooWide (7 ∷ []) (reserved ∷ [])) false
+reservedWide kind reserved = eqb kind 4 && tooWide (7 ∷ []) (reserved ∷ [])
 
 -- a bandwidth of 1 to 127
 abbrev pub reservedBandwidth : ℤ → Bool
@@ -165,7 +165,7 @@ mipChecks count pointer periodic future stamp delay tps d room =
 
 -- 38 of a state as C holds it: an in_step over 1 is no reader's, and else as 01 says of the state that it stands for
 abbrev pub stateUnfit : SfnReader → Bool
-stateUnfit r = cond (ltb 1 (r .«in_step»)) true (unfit (readerFrom r))
+stateUnfit r = ltb 1 (r .«in_step») || unfit (readerFrom r)
 
 -- a PID that is not refused gives a state that gathering does not refuse as 38
 pub record Starts (pid : ℕ) (x : SfnStarted) : Type 0 where
