@@ -24,6 +24,7 @@ use Rattle.addressing.specs.declared.Step.{Step}
 use Rattle.addressing.specs.declared.Step.the-variants.{Given, End}
 use Rattle.addressing.specs.declared.Walked.{Walked}
 use Rattle.mip.specs.Write as mipWriting
+use Rattle.mip.specs.Timing.{steps}
 use Rattle.mip.specs.declared.Mip.{Mip}
 use Rattle.mip.specs.declared.MipRead.{MipRead}
 use Rattle.mip.specs.declared.Time.{Time}
@@ -182,6 +183,6 @@ meets-one =
       functionWrite = λ kind tag value wait reserved bytes out. function-writes tag wait reserved bytes out kind value;
       mipRead = λ p. flat _ (λ (r : MipRead). r .refusal) below.noMip (λ (r : SfnMip). r .refusal) noMip mipFlat (λ a. refl) (λ n z. refl) _ (library.meets-one .mipRead p);
       mipWrite = mip-writes;
-      emission = λ stamp delay offset. flat _ (λ (x : Time). x .refusal) below.noTime (λ (x : SfnTime). x .refusal) noTime timeOf (λ a. refl) (λ n z. refl) _ (library.meets-one .emission stamp delay offset);
-      extraDelay = λ stamp delay offset reception. flat _ (λ (x : Time). x .refusal) below.noTime (λ (x : SfnTime). x .refusal) noTime timeOf (λ a. refl) (λ n z. refl) _ (library.meets-one .extraDelay stamp delay offset reception);
+      emission = λ stamp delay offset. flat _ (λ (x : Time). x .refusal) below.noTime (λ (x : SfnTime). x .refusal) noTime timeOf (λ a. refl) (λ n z. refl) _ (library.meets-one .emission (steps stamp) (steps delay) offset);
+      extraDelay = λ stamp delay offset reception. flat _ (λ (x : Time). x .refusal) below.noTime (λ (x : SfnTime). x .refusal) noTime timeOf (λ a. refl) (λ n z. refl) _ (library.meets-one .extraDelay (steps stamp) (steps delay) offset (steps reception));
     }

@@ -27,7 +27,7 @@ use Rattle.addressing.specs.Walk.{walkChecks}
 use Rattle.mip.specs.Layout.{second}
 use Rattle.mip.specs.Read as mip
 use Rattle.mip.specs.Write.{fieldWide}
-use Rattle.mip.specs.Timing.{emissionChecks, extraChecks}
+use Rattle.mip.specs.Timing.{steps, emissionChecks, extraChecks}
 use Rattle.transport.specs.Tests.{pidOutside}
 use Rattle.carry.specs.Carry as carrying
 use Rattle.gather.specs.State.{unfit, gatherChecks}
@@ -223,6 +223,6 @@ pub record Demand1 (door : Door) : Type 0 where
   pub mipRead : (p : List ℕ) → Answers (mip.readChecks p) (λ (m : SfnMip). m .refusal) noMip (door .mipRead p)
   pub mipWrite : (count pointer periodic future stamp delay tps : ℕ) (d out : List ℕ)
       → Writes (mipChecks count pointer periodic future stamp delay tps d (length out)) out (door .mipWrite count pointer periodic future stamp delay tps d out)
-  pub emission : (stamp delay : ℕ) (offset : ℤ) → Answers (emissionChecks stamp delay offset) (λ (t : SfnTime). t .refusal) noTime (door .emission stamp delay offset)
+  pub emission : (stamp delay : ℕ) (offset : ℤ) → Answers (emissionChecks (steps stamp) (steps delay) offset) (λ (t : SfnTime). t .refusal) noTime (door .emission stamp delay offset)
   pub extraDelay : (stamp delay : ℕ) (offset : ℤ) (reception : ℕ)
-      → Answers (extraChecks stamp delay offset reception) (λ (t : SfnTime). t .refusal) noTime (door .extraDelay stamp delay offset reception)
+      → Answers (extraChecks (steps stamp) (steps delay) offset (steps reception)) (λ (t : SfnTime). t .refusal) noTime (door .extraDelay stamp delay offset reception)

@@ -15,7 +15,7 @@ use Rattle.addressing.specs.Data.{house}
 use Rattle.addressing.specs.Payload as addressing
 use Rattle.addressing.specs.Walk.{walkOf}
 use Rattle.mip.specs.Read as mip
-use Rattle.mip.specs.Timing.{emissionOf, extraOf}
+use Rattle.mip.specs.Timing.{steps, emissionOf, extraOf}
 use Rattle.carry.specs.Carry as carrying
 use Rattle.gather.specs.State.{startOf}
 use Rattle.sfn.specs.Answers.{packetOf, lengthHeld, stampOf, stampFrom, functionOf}
@@ -80,6 +80,6 @@ ours =
       functionWrite = λ kind tag value wait reserved bytes. functionWritten (madeOf kind tag value wait reserved (length bytes)) bytes;
       mipRead = λ p. mipFlat (mip.readOf p);
       mipWrite = mipWritten;
-      emission = λ stamp delay offset. timeOf (emissionOf stamp delay offset);
-      extraDelay = λ stamp delay offset reception. timeOf (extraOf stamp delay offset reception);
+      emission = λ stamp delay offset. timeOf (emissionOf (steps stamp) (steps delay) offset);
+      extraDelay = λ stamp delay offset reception. timeOf (extraOf (steps stamp) (steps delay) offset (steps reception));
     }
