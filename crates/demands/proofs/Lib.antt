@@ -7,3 +7,4 @@ pub mod Settled
 pub mod Limits
 pub mod Wrong
 pub mod Bench
+pub mod Pins

@@ -6,3 +6,4 @@ pub mod Demand2
 pub mod Route
 pub mod Demand3
 pub mod Bench
+pub mod Pins

@@ -14,6 +14,8 @@ mod journey;
 pub mod listing;
 pub mod mip;
 pub mod packet;
+#[cfg(test)]
+mod pins;
 pub mod refusals;
 #[cfg(test)]
 mod round_trips;
