@@ -8,3 +8,4 @@ pub mod Limits
 pub mod Wrong
 pub mod Bench
 pub mod Pins
+pub mod Witnesses

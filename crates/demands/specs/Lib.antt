@@ -7,3 +7,4 @@ pub mod Route
 pub mod Demand3
 pub mod Bench
 pub mod Pins
+pub mod Witnesses

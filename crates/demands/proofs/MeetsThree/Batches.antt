@@ -78,7 +78,7 @@ module _ (pid c : ℕ) (b : Batch) (good : pidOutside pid ≡ false) (k : c < 16
         (
           le-ltb 15 c (omega arith),
           (
-            le-ltb 65536 (length batch) (f .short),
+            le-ltb 65536 (length batch) (omega (arith, f .short)),
             (
               rw no-fault refl,
               (rw loads-are (le-ltb (length (b .out)) (188 * length (loadsOf (b .packets))) (f .room)), tt),

@@ -1,13 +1,17 @@
 -- For the wrong libraries: small inputs of which no check of 01 holds, and libraries that are ours but for one operation.
 -- Assumes nothing.
 use mathlib.Core.Path.{_≡_, refl}
+use mathlib.Core.Bool.{Bool, true, _&&_}
 use mathlib.Core.List.{List, [], _∷_, _++_}
-use Prim.Native.Nat.{ℕ}
+use Prim.Native.Nat.{ℕ, zero, suc}
+use lib.Dec.{ltb, lit<}
 use lib.ListN.{length, replicate}
+use borrow.Author.Tests.{ltb-true}
 use Rattle.crc.specs.Crc.{shift, bitAt, feed, run, crcOf, crcHolds}
 use Rattle.fields.specs.Formats.{pack, unpack}
-use Rattle.fields.specs.Numbers.{number, bytes}
+use Rattle.fields.specs.Numbers.{Bytes, number, bytes}
 use Rattle.fields.specs.Parts.{part, numberAt}
+use Rattle.fields.proofs.Cases.{and-left, and-right}
 use Rattle.refusals.specs.Checks.{first}
 use Rattle.refusals.specs.Answers.{Wrote}
 use Rattle.packet.specs.Layout.{reservedType, padSet, sizeOf}
@@ -83,6 +87,16 @@ good-carrier = refl
 pub good-startless : first (gatherChecks (fresh 0x1000) startless (length buffer) (length space)) ≡ 0
 unfolding gatherChecks unfit pidOutside transportChecks fieldLong pointerBeyond headerField payloadAt transportOf headBytes number bytes pack unpack
 good-startless = refl
+
+-- the elements of a list are bytes, by computing
+abbrev pub below : List ℕ → Bool
+below [] = true
+below (x ∷ l) = ltb x 256 && below l
+
+pub bytes-by : (l : List ℕ) → below l ≡ true → Bytes l
+bytes-by [] h i = lit< tt
+bytes-by (x ∷ l) h zero = ltb-true x 256 (and-left (ltb x 256) (below l) h)
+bytes-by (x ∷ l) h (suc i) = bytes-by l (and-right (ltb x 256) (below l) h) i
 
 -- ---- ours with one operation changed
 

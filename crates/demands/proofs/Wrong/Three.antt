@@ -1,17 +1,15 @@
 -- Wrong libraries that demand 3 refuses: each is ours but for one operation, and is refuted by one short journey.
 -- Assumes nothing.
 use mathlib.Core.Path.{_≡_, refl, sym, ap}
-use Prim.Native.Nat.{ℕ, zero, suc, _+_, _<_}
-use mathlib.Core.Bool.{Bool, true, false, _&&_}
+use Prim.Native.Nat.{ℕ, _+_}
+use mathlib.Core.Bool.{Bool, true, false}
 use mathlib.Core.List.{List, [], _∷_, _++_}
 use native.Mathlib.Omega.{arith}
-use lib.Dec.{ltb, lit<}
 use lib.ListN.{length, getD, take, replicate, length-replicate}
-use borrow.Author.Tests.{ltb-true}
 use Rattle.fields.specs.Formats.{pack, unpack}
-use Rattle.fields.specs.Numbers.{Bytes, number, bytes}
+use Rattle.fields.specs.Numbers.{number, bytes}
 use Rattle.fields.specs.Parts.{overlay}
-use Rattle.fields.proofs.Cases.{and-left, and-right, true≢false}
+use Rattle.fields.proofs.Cases.{true≢false}
 use Rattle.refusals.specs.Answers.{answer}
 use Rattle.crc.specs.Crc as crc
 use Rattle.packet.specs.Layout.{sizeOf}
@@ -35,19 +33,9 @@ use Rattle.demands.specs.Library.{Library}
 use Rattle.demands.specs.Demand2.Carry.{transportsIn}
 use Rattle.demands.specs.Route.{Item, writers, again, Route, nothing, due, arrives, lossMarks, inputs}
 use Rattle.demands.specs.Demand3.{Batch, Carriable, AllCarriable, packetsOf, carryAll, Exactly, Demand3}
-use Rattle.demands.proofs.Wrong.Changed.{five, buffer, space, carriedBy, gatheredBy}
+use Rattle.demands.proofs.Wrong.Changed.{five, buffer, space, bytes-by, carriedBy, gatheredBy}
 
 -- ---- a journey: one small packet in each batch
-
--- the elements of a list are bytes, by computing
-abbrev below : List ℕ → Bool
-below [] = true
-below (x ∷ l) = ltb x 256 && below l
-
-bytes-by : (l : List ℕ) → below l ≡ true → Bytes l
-bytes-by [] h i = lit< tt
-bytes-by (x ∷ l) h zero = ltb-true x 256 (and-left (ltb x 256) (below l) h)
-bytes-by (x ∷ l) h (suc i) = bytes-by l (and-right (ltb x 256) (below l) h) i
 
 abbrev pub one : Batch
 one = record { packets = five ∷ []; out = replicate 188 0 }
