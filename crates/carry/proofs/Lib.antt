@@ -6,3 +6,4 @@ pub mod BatchLaws
 pub mod BuildLaws
 pub mod ShapeLaws
 pub mod Theorems
+pub mod Bench

@@ -1,4 +1,4 @@
--- What a batch's transport packets are goes by the lengths of its packets alone; and the bench rows of 01 hold.
+-- What a batch's transport packets are goes by the lengths of its packets alone.
 -- Assumes nothing.
 use mathlib.Core.Path.{_≡_, refl, sym, ap, ap₂, _∙_}
 use mathlib.Core.Bool.{Bool, true, _&&_, and-false}
@@ -13,7 +13,7 @@ use Rattle.fields.proofs.Cases.{cases, and-left}
 use Rattle.packet.specs.Cut.{AllWhole, joined}
 use Rattle.carry.specs.Loads.{Gone, goneOf, follows, loadsBy, loadsOf}
 use Rattle.carry.proofs.LoadLaws.{whole-long}
-use Rattle.carry.specs.Rows.{Shape, carries, begins, shapeOf, roomOf, sum, Rest, restOf, shapesBy, shapes, Row, rows, Holds, AllHold}
+use Rattle.carry.specs.Rows.{Shape, carries, begins, shapeOf, sum, Rest, restOf, shapesBy, shapes}
 
 pub length-joined : (ps : List (List ℕ)) → length (joined ps) ≡ sum (map length ps)
 unfolding joined
@@ -141,12 +141,3 @@ pub needs-few : (ps : List (List ℕ)) → AllWhole ps → length (loadsOf ps) �
 needs-few ps w =
     let f : 183 * length (shapes (map length ps)) ≤ 0 + sum (map length ps) + 182 = unfold shapes in few-by (sum (map length ps)) 0 (map length ps) (some-lengths ps w) in
     omega (arith, needs ps, length-joined ps)
-
--- ---- the bench rows
-
-holds : (r : Row) → shapes (r .lengths) ≡ r .shapes → map roomOf (r .shapes) ≡ r .rooms → Holds r
-holds r e f = record { carried = λ ps w h. shapes-of ps ∙ ap shapes h ∙ e; fields = f }
-
-pub bench : AllHold rows
-unfolding shapes shapesBy restOf
-bench = (holds _ refl refl, (holds _ refl refl, (holds _ refl refl, (holds _ refl refl, (holds _ refl refl, (holds _ refl refl, tt))))))

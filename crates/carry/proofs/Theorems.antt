@@ -9,6 +9,7 @@ use native.Mathlib.Nat.{add-assoc, add-zero}
 use native.Mathlib.Omega.{arith}
 use lib.Dec.{ltb}
 use lib.ListN.{length, length-append}
+use lib.Seq.{take-at, drop-at}
 use borrow.Author.Tests.{ltb-false, not-false, eqb-true}
 use Rattle.fields.proofs.Cases.{cases, true≢false}
 use Rattle.packet.specs.Cut.{AllWhole, Cut, joined}
@@ -18,7 +19,7 @@ use Rattle.transport.specs.Tests.{pidOutside}
 use Rattle.transport.specs.Load.{Load, plain, start, loadBytes, transportOf}
 use Rattle.transport.proofs.LoadLaws.{Sound, sound-plain, sound-start, transport-length, found}
 use Rattle.carry.specs.Loads.{loadsBy, loadsOf}
-use Rattle.carry.specs.Carry.{packetsOf, numbered, loads}
+use Rattle.carry.specs.Carry.{packetsOf, numbered, loads, transportsIn}
 use Rattle.carry.specs.Theorems.{Packets, streamOf, beginnings, Among, AllRight}
 use Rattle.carry.proofs.Flow.{Flow, done, on, end, even, split}
 use Rattle.carry.proofs.LoadLaws.{flows-of, joined-more, whole-long}
@@ -228,6 +229,14 @@ pub length-numbered : (pid c : ℕ) (ls : List Load) → length (numbered pid c 
 unfolding numbered
 length-numbered pid c [] = refl
 length-numbered pid c (l ∷ ls) = ap suc (length-numbered pid ((c + 1) % 16) ls)
+
+-- the transport packets at the front of an output
+pub transports-front : (pid c : ℕ) (ts : List (List ℕ)) (rest : List ℕ) → Packets pid c ts → transportsIn (length ts) (joined ts ++ rest) ≡ ts
+unfolding transportsIn joined
+transports-front pid c [] rest p = refl
+transports-front pid c (t ∷ ts) rest p =
+    rw (append-assoc t (joined ts) rest, take-at t (joined ts ++ rest) 188 (p .0 .long), drop-at t (joined ts ++ rest) 188 (p .0 .long))
+    (ap (λ (l : List (List ℕ)). t ∷ l) (transports-front pid ((c + 1) % 16) ts rest (p .1)))
 
 -- A theorem: an empty batch gives no packets
 pub none-carried : loads [] ≡ []

@@ -1,8 +1,8 @@
 -- The batch writer: what it refuses, what it answers, and what the output then holds.
-use Prim.Native.Nat.{ℕ, _+_, _*_, _%_}
+use Prim.Native.Nat.{ℕ, zero, suc, _+_, _*_, _%_}
 use mathlib.Core.List.{List, [], _∷_}
 use lib.Dec.{ltb}
-use lib.ListN.{length}
+use lib.ListN.{length, take, drop}
 use Rattle.fields.specs.Parts.{overlay}
 use Rattle.refusals.specs.Checks.{Check, _when_, found}
 use Rattle.refusals.specs.Answers.{answer}
@@ -47,3 +47,8 @@ carryOf pid firstCount batch out =
       answer = record { refusal = 0; packets = length (loads batch); «next_count» = (firstCount + length (loads batch)) % 16 };
       out = overlay 0 (joined (numbered pid firstCount (loads batch))) out;
     })
+
+-- the first n transport packets of an output
+unfoldable pub transportsIn : ℕ → List ℕ → List (List ℕ)
+transportsIn zero out = []
+transportsIn (suc n) out = take 188 out ∷ transportsIn n (drop 188 out)

@@ -1,14 +1,17 @@
 -- How many transport packets a batch needs, and what each of them is, goes by the lengths of its packets alone: and the
--- bench rows of 01.
+-- bench rows of 01, of the writer's answer and of the bytes that it wrote.
 use mathlib.Core.Path.{_≡_}
-use mathlib.Core.Bool.{cond, _&&_}
+use mathlib.Core.Bool.{true, false, cond, _&&_}
 use mathlib.Core.List.{List, [], _∷_, _++_, map}
-use Prim.Native.Nat.{ℕ, zero, suc, _+_, _-_, min}
+use Prim.Native.Nat.{ℕ, zero, suc, _+_, _-_, _*_, _%_, _≤_, _<_, min}
 use lib.Dec.{leb, eqb}
-use lib.ListN.{length, replicate}
-use Rattle.packet.specs.Cut.{AllWhole}
+use lib.ListN.{length, getD, replicate}
+use Rattle.packet.specs.Cut.{AllWhole, joined}
+use Rattle.transport.specs.Header.{controlOf, starts, pointerOf, carriedBy}
 use Rattle.transport.specs.Load.{Load, plain, start}
-use Rattle.carry.specs.Loads.{follows, loadsOf}
+use Rattle.transport.specs.Tests.{pidOutside}
+use Rattle.carry.specs.Loads.{follows}
+use Rattle.carry.specs.Carry.{Outcome, carryOf, transportsIn}
 
 -- a load by its sizes: bytes with no start, or a start with its pointer and bytes
 pub data Shape : Type 0 where
@@ -58,6 +61,24 @@ shapesBy (suc k) r ns =
 unfoldable pub shapes : List ℕ → List Shape
 shapes ns = shapesBy (sum ns) 0 ns
 
+-- ---- what a transport packet shows in its bytes
+
+-- so many bytes of adaptation field: none where adaptation control is 01; with 11, byte 4 says how many follow it
+abbrev pub Field : ℕ → List ℕ → Type 0
+Field zero t = controlOf t ≡ 1
+Field (suc n) t = (controlOf t ≡ 3) × (getD t 4 0 ≡ n)
+
+-- the start indicator, the pointer, and how many bytes of T2-MI packets there are
+abbrev pub Shows : Shape → List ℕ → Type 0
+Shows (carries n) t = (starts t ≡ false) × (length (carriedBy t) ≡ n)
+Shows (begins p n) t = (starts t ≡ true) × (pointerOf t ≡ p) × (length (carriedBy t) ≡ n)
+
+abbrev pub AllShow : List Shape → List (List ℕ) → Type 0
+AllShow [] [] = Unit
+AllShow [] (t ∷ ts) = ⊥
+AllShow (s ∷ ss) [] = ⊥
+AllShow (s ∷ ss) (t ∷ ts) = Shows s t × Field (roomOf s) t × AllShow ss ts
+
 -- ---- the rows
 
 pub record Row : Type 0 where
@@ -80,9 +101,18 @@ rows =
     ∷ record { lengths = replicate 19 10; shapes = begins 0 183 ∷ carries 7 ∷ []; rooms = 0 ∷ 177 ∷ [] }
     ∷ []
 
--- for every batch of good packets with those lengths
+-- what the writer answers, and the transport packets that it wrote
+pub record Wrote (firstCount : ℕ) (ss : List Shape) (o : Outcome) : Type 0 where
+  pub answer : o .answer ≡ record { refusal = 0; packets = length ss; «next_count» = (firstCount + length ss) % 16 }
+  pub bytes : AllShow ss (transportsIn (length ss) (o .out))
+
+-- for every batch of good packets with those lengths, on every PID and from every count that is not refused, into every output with room
+-- for the exact result
 pub record Holds (row : Row) : Type 0 where
-  pub carried : (ps : List (List ℕ)) → AllWhole ps → map length ps ≡ row .lengths → map shapeOf (loadsOf ps) ≡ row .shapes
+  pub carried : (ps : List (List ℕ)) → AllWhole ps → map length ps ≡ row .lengths
+      → (pid firstCount : ℕ) → pidOutside pid ≡ false → firstCount < 16
+      → (out : List ℕ) → 188 * length (row .shapes) ≤ length out
+      → Wrote firstCount (row .shapes) (carryOf pid firstCount (joined ps) out)
   pub fields : map roomOf (row .shapes) ≡ row .rooms
 
 abbrev pub AllHold : List Row → Type 0

@@ -3,7 +3,7 @@
 use mathlib.Core.List.{List, [], _∷_, _++_}
 use lib.ListN.{take, drop}
 use Rattle.packet.proofs.Bench as packet
-use Rattle.carry.proofs.ShapeLaws as carry
+use Rattle.carry.proofs.Bench as carry
 use Rattle.functions.proofs.Bench as functions
 use Rattle.mip.proofs.Bench as mip
 use Rattle.demands.specs.Bench.{Row, rows, AllHold}

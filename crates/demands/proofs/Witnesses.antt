@@ -38,11 +38,10 @@ use Rattle.transport.specs.Header as transport
 use Rattle.transport.specs.Tests.{pidOutside, fieldLong, pointerBeyond, transportChecks}
 use Rattle.transport.specs.Load.{headBytes, transportOf}
 use Rattle.carry.specs.Loads.{goneOf, loadsBy, loadsOf}
-use Rattle.carry.specs.Carry.{numbered, carryChecks, carryOf}
+use Rattle.carry.specs.Carry.{numbered, carryChecks, carryOf, transportsIn}
 use Rattle.carry.proofs.ShapeLaws.{length-joined, needs-few}
 use Rattle.gather.specs.State.{unfit, gatherChecks}
 use Rattle.demands.specs.Library.{ours}
-use Rattle.demands.specs.Demand2.Carry.{transportsIn}
 use Rattle.demands.specs.Demand3.{Carriable}
 use Rattle.demands.proofs.Wrong.Changed.{bytes-by}
 use Rattle.demands.specs.Witnesses.{routes, AllRoutes, ten, small, header8192, eighth, largest, Journeys, Refusals}

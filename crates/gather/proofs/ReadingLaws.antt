@@ -6,9 +6,9 @@ use mathlib.Core.List.{List, [], _∷_, _++_, append-assoc}
 use Prim.Native.Nat.{ℕ, _+_, _-_, _%_, _≤_, _<_}
 use native.Mathlib.Nat.{min-le-right}
 use native.Mathlib.Omega.{arith}
-use lib.Dec.{leb, lit<}
+use lib.Dec.{leb}
 use lib.ListN.{length, take, drop, length-append, length-drop, length-take}
-use lib.Seq.{take-length, drop-length, length-take-le, getD-at}
+use lib.Seq.{take-length, drop-length, length-take-le}
 use borrow.Author.Tests.{eq-eqb, lt-leb, leb-true, leb-false}
 use Rattle.fields.specs.Parts.{overlay}
 use Rattle.fields.proofs.Cases.{cases}
@@ -19,10 +19,10 @@ use Rattle.packet.specs.Layout.{sizeOf}
 use Rattle.packet.specs.Cut.{Whole, AllWhole, joined}
 use Rattle.packet.proofs.LayoutLaws.{size-least, size-append}
 use Rattle.packet.proofs.CutLaws.{cut-behind}
-use Rattle.transport.specs.Header.{countOf, starts, payloadAt, pointerOf}
+use Rattle.transport.specs.Header.{countOf, starts, payloadAt}
 use Rattle.transport.specs.Tests.{fieldLong, transportChecks}
-use Rattle.transport.specs.Load.{Load, plain, start, headBytes, transportOf}
-use Rattle.transport.proofs.LoadLaws.{Sound, Found, found, length-head, head-payload}
+use Rattle.transport.specs.Load.{Load, plain, start, transportOf}
+use Rattle.transport.proofs.LoadLaws.{Sound, pointer-is, Found, found}
 use Rattle.gather.specs.State.{unfit, repeats, gatherChecks}
 use Rattle.gather.specs.Rules.{none, Brought, broughtBy, Hand, waits, handsOut, ruleOne, upToStart, fromStart, rulesOn}
 use Rattle.gather.specs.Gather.{inHand, joiners, answerOf, enteredOf, resultOf, takenOf}
@@ -61,12 +61,6 @@ unfolding broughtBy
 brought-plain pid count d hp hc sound =
     let f : Found pid count (plain d) = found pid count (plain d) hp hc sound in
     rw (f .begun, f .counted, f .carries)
-
-pub pointer-is : (pid count n : ℕ) (d : List ℕ) → pid < 8192 → count < 16 → pointerOf (transportOf pid count (start n d)) ≡ n
-unfolding transportOf
-pointer-is pid count n d hp hc =
-    let e : length (headBytes pid 1 count (183 - length d)) ≡ 4 + (183 - length d) = omega (arith, simp length-append at (length-head pid 1 count (183 - length d) [])) in
-    rw (head-payload pid 1 count (183 - length d) (n ∷ d) hp (lit< tt) hc) (getD-at (headBytes pid 1 count (183 - length d)) n d 0 (4 + (183 - length d)) e)
 
 pub brought-start : (pid count n : ℕ) (d : List ℕ) → pid < 8192 → count < 16 → Sound (start n d)
     → broughtBy (transportOf pid count (start n d)) ≡ starting count (take n d) (drop n d)

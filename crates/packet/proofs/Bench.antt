@@ -1,31 +1,38 @@
--- The bench rows of 01 for T2-MI packets hold: by computing, and for every slice that is read.
+-- The bench rows of 01 for T2-MI packets hold: by computing, and for every packet that is written.
 -- Assumes nothing.
 use mathlib.Core.Path.{_≡_, refl, sym, ap, _∙_}
 use mathlib.Core.List.{List}
-use Prim.Native.Nat.{ℕ}
-use native.Mathlib.Omega.{arith}
-use lib.ListN.{length}
+use Prim.Native.Nat.{ℕ, _+_}
+use lib.ListN.{length, replicate, take}
+use Rattle.fields.specs.Formats.{tooWide}
 use Rattle.fields.specs.Numbers.{Bytes}
 use Rattle.refusals.specs.Checks.{first}
-use Rattle.packet.proofs.FieldLaws.{size-field, readable}
-use Rattle.packet.proofs.RoundTrips.{read-shows, read-accepted}
-use Rattle.packet.specs.Layout.{totalOf}
-use Rattle.packet.specs.Read.{readOf, headerOf, readChecks}
-use Rattle.packet.specs.declared.Packet.{Packet}
-use Rattle.packet.specs.Rows.{Row, rows, Holds, AllHold}
+use Rattle.refusals.specs.Answers.{Wrote}
+use Rattle.refusals.specs.declared.Written.{Written}
+use Rattle.packet.proofs.FieldLaws.{writable}
+use Rattle.packet.proofs.RoundTrips.{write-shows, write-accepted, length-packet, read-written}
+use Rattle.packet.specs.Layout.{reservedType, payloadBytes, padSet, totalOf}
+use Rattle.packet.specs.Read.{readOf}
+use Rattle.packet.specs.Write.{packetBytes, writeChecks, writeOf}
+use Rattle.packet.specs.declared.Header.{Header}
+use Rattle.packet.specs.Rows.{Row, zeros, rows, Holds, AllHold}
 
-holds : (r : Row) → totalOf (r .bits) ≡ r .total → Holds r
-unfolding headerOf
-holds r e = record { counts = e; reads = λ s b z i. reads s b z i }
-  where
-    reads : (s : List ℕ) → Bytes s → readOf s .refusal ≡ 0 → readOf s .header .bits ≡ r .bits → length s ≡ r .total
-    reads s b z i =
-        let z′ : first (readChecks s) ≡ 0 = sym (read-shows s) ∙ z in
-        let p = readable s z′ in
-        p .size
-        ∙ size-field s b (omega (arith, p .long))
-        ∙ ap totalOf (sym (ap (λ (a : Packet). a .header .bits) (read-accepted s z′)) ∙ i)
-        ∙ e
+-- a packet that is written has the total of its payload bits
+module _ (r : Row) (e : totalOf (r .bits) ≡ r .total) (h : Header) (payload out : List ℕ) (i : h .bits ≡ r .bits) (z : first (writeChecks h payload (length out)) ≡ 0) where
+  long : length (packetBytes h payload) ≡ r .total
+  long = length-packet h payload ∙ ap (λ (k : ℕ). 10 + k) (writable h payload out z .size) ∙ ap totalOf i ∙ e
+
+  writes : writeOf h payload out .answer ≡ record { refusal = 0; bytes = r .total }
+  writes = ap (λ (w : Wrote). w .answer) (write-accepted h payload out z) ∙ ap (λ (k : ℕ). record { refusal = 0; bytes = k }) long
+
+  reads : Bytes payload → readOf (take (r .total) (writeOf h payload out .out)) ≡ record { refusal = 0; header = h }
+  reads b =
+      ap (λ (k : ℕ). readOf (take k (writeOf h payload out .out))) (sym (ap (λ (a : Written). a .bytes) writes))
+      ∙ read-written h payload out b (write-shows h payload out ∙ z) .fields
+
+holds : (r : Row) → totalOf (r .bits) ≡ r .total → first (writeChecks (zeros (r .bits)) (replicate (payloadBytes (r .bits)) 0) (r .total)) ≡ 0 → Holds r
+holds r e o = record { counts = e; one = o; writes = writes r e; reads = λ h payload out b i z. reads r e h payload out i z b }
 
 pub bench : AllHold rows
-bench = (holds _ refl, (holds _ refl, (holds _ refl, (holds _ refl, (holds _ refl, tt)))))
+unfolding writeChecks reservedType tooWide padSet
+bench = (holds _ refl refl, (holds _ refl refl, (holds _ refl refl, (holds _ refl refl, (holds _ refl refl, tt)))))

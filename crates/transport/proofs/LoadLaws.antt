@@ -14,7 +14,7 @@ use Rattle.fields.specs.Formats.{pack, Fit}
 use Rattle.fields.specs.Numbers.{number, bytes}
 use Rattle.fields.proofs.FormatLaws.{pack-lt, unpack-pack}
 use Rattle.fields.proofs.NumberLaws.{number-bytes, length-bytes}
-use Rattle.transport.specs.Header.{header, headerField, startBitOf, countOf, payloadAt, carriedAt, carriedBy}
+use Rattle.transport.specs.Header.{header, headerField, startBitOf, countOf, payloadAt, pointerOf, carriedAt, carriedBy}
 use Rattle.transport.specs.Tests.{syncWrong, errorMarked, anotherPid, scrambled, noPayload, fieldLong, pointerBeyond}
 use Rattle.transport.specs.Load.{Load, plain, start, loadBytes, adaptation, controlFor, headBytes, transportOf}
 
@@ -80,7 +80,7 @@ module _ (pid begins count room : ℕ) (rest : List ℕ) where
     unfolding headerField
     head-field i = rw (number-head, unpack-pack header (values pid begins count room) fit)
 
-    first-behind : (n : ℕ) → room ≡ suc n → getD t 4 0 ≡ n
+    pub first-behind : (n : ℕ) → room ≡ suc n → getD t 4 0 ≡ n
     first-behind n e =
         ap (λ (l : List ℕ). getD l 4 0) parts
         ∙ ap (λ (k : ℕ). getD (four ++ (adaptation room ++ rest)) k 0) (sym (add-zero 4) ∙ ap (λ (k : ℕ). k + 0) (sym length-four))
@@ -131,6 +131,11 @@ transport-length pid count (start n d) (sound-start a b) = length-head pid 1 cou
 pointed-at : (pid begins count room n : ℕ) (d : List ℕ) → getD (headBytes pid begins count room ++ (n ∷ d)) (4 + room) 0 ≡ n
 pointed-at pid begins count room n d =
     getD-at (headBytes pid begins count room) n d 0 (4 + room) (omega (arith, simp length-append at (length-head pid begins count room [])))
+
+pub pointer-is : (pid count n : ℕ) (d : List ℕ) → pid < 8192 → count < 16 → pointerOf (transportOf pid count (start n d)) ≡ n
+unfolding transportOf
+pointer-is pid count n d hp hc =
+    rw (head-payload pid 1 count (183 - length d) (n ∷ d) hp (lit< tt) hc) (pointed-at pid 1 count (183 - length d) n d)
 
 -- what a reader finds in one, and that no check of 5 to 11 holds of it
 pub record Found (pid count : ℕ) (l : Load) : Type 0 where

@@ -1,37 +1,26 @@
 -- The transport packets in our writer's output are those of the loads, so that carry's theorems hold of the bytes written.
 -- Assumes nothing.
 use mathlib.Core.Path.{_≡_, refl, sym, ap, ap₂, _∙_}
-use mathlib.Core.List.{List, [], _∷_, _++_, map, append-assoc}
+use mathlib.Core.List.{List, [], _∷_, map}
 use Prim.Native.Nat.{ℕ, _+_, _-_, _%_, _<_}
 use native.Mathlib.Omega.{arith}
 use lib.ListN.{length, drop}
-use lib.Seq.{take-at, drop-at}
 use Rattle.fields.specs.Parts.{overlay}
 use Rattle.refusals.specs.Checks.{first}
 use Rattle.refusals.proofs.AnswerLaws.{answer-accepted}
 use Rattle.packet.specs.Cut.{joined}
 use Rattle.packet.proofs.BatchLaws.{sound}
 use Rattle.transport.specs.Load.{Load, plain, start, transportOf}
-use Rattle.transport.proofs.LoadLaws.{Sound, Found, found}
-use Rattle.carry.specs.Carry.{Outcome, packetsOf, loads, numbered, carryChecks, carryOf}
+use Rattle.transport.proofs.LoadLaws.{Sound, pointer-is, Found, found}
+use Rattle.carry.specs.Carry.{Outcome, packetsOf, loads, numbered, carryChecks, carryOf, transportsIn}
 use Rattle.carry.specs.Theorems.{Packets}
 use Rattle.carry.proofs.BatchLaws.{Carriable, carriable}
 use Rattle.carry.proofs.LoadLaws.{flows-of}
-use Rattle.carry.proofs.Theorems.{AllSound, flow-sound, pid-small, carried-packets, carried-bytes, starts-right, length-numbered}
+use Rattle.carry.proofs.Theorems.{AllSound, flow-sound, pid-small, carried-packets, carried-bytes, starts-right, length-numbered, transports-front}
 use Rattle.gather.proofs.GatherLaws.{gather-taken}
-use Rattle.gather.proofs.ReadingLaws.{pointer-is}
 use Rattle.gather.proofs.StateLaws.{start-taken}
 use Rattle.demands.specs.Library.{ours}
-use Rattle.demands.specs.Demand2.Carry.{transportsIn, transports, loadOf, Written, Carriage}
-
--- ---- the transport packets at the front of an output
-
-transports-front : (pid count : ℕ) (ts : List (List ℕ)) (rest : List ℕ) → Packets pid count ts → transportsIn (length ts) (joined ts ++ rest) ≡ ts
-unfolding transportsIn joined
-transports-front pid count [] rest p = refl
-transports-front pid count (t ∷ ts) rest p =
-    rw (append-assoc t (joined ts) rest, take-at t (joined ts ++ rest) 188 (p .0 .long), drop-at t (joined ts ++ rest) 188 (p .0 .long))
-    (ap (λ (l : List (List ℕ)). t ∷ l) (transports-front pid ((count + 1) % 16) ts rest (p .1)))
+use Rattle.demands.specs.Demand2.Carry.{transports, loadOf, Written, Carriage}
 
 -- ---- what a transport packet carries is the load that it was made of
 

@@ -18,7 +18,7 @@ use Rattle.transport.specs.Header as transport
 use Rattle.transport.specs.Tests.{pidOutside, fieldLong, pointerBeyond, transportChecks}
 use Rattle.transport.specs.Load.{plain, headBytes, transportOf}
 use Rattle.carry.specs.Loads.{goneOf, loadsBy, loadsOf}
-use Rattle.carry.specs.Carry.{numbered, carryChecks, carryOf, Outcome}
+use Rattle.carry.specs.Carry.{numbered, carryChecks, carryOf, transportsIn, Outcome}
 use Rattle.gather.specs.State.{startOf, unfit, gatherChecks}
 use Rattle.gather.specs.Marks.{noMarks}
 use Rattle.gather.specs.Rules.{broughtBy, ruleOne, joining, upToStart, fromStart, rulesOn}
@@ -30,7 +30,6 @@ use Rattle.gather.specs.declared.Last.{Last}
 use Rattle.gather.specs.declared.Last.the-variants.{Nothing, Count}
 use Rattle.gather.specs.declared.Reader.{Reader}
 use Rattle.demands.specs.Library.{Library}
-use Rattle.demands.specs.Demand2.Carry.{transportsIn}
 use Rattle.demands.specs.Route.{Item, writers, again, Route, nothing, due, arrives, lossMarks, inputs}
 use Rattle.demands.specs.Demand3.{Batch, Carriable, AllCarriable, packetsOf, carryAll, Exactly, Demand3}
 use Rattle.demands.proofs.Wrong.Changed.{five, buffer, space, bytes-by, carriedBy, gatheredBy}

@@ -1,28 +1,23 @@
 -- Carriage: the batch writer and the gathering reader (01, "Carriage: the writer" and "Carriage: the reader").
-use Prim.Native.Nat.{ℕ, zero, suc, _+_, _%_}
+use Prim.Native.Nat.{ℕ, _+_, _%_}
 use mathlib.Core.Path.{_≡_}
 use mathlib.Core.Bool.{false, cond}
-use mathlib.Core.List.{List, [], _∷_, map}
-use lib.ListN.{length, take, drop}
+use mathlib.Core.List.{List, map}
+use lib.ListN.{length}
 use Rattle.fields.specs.Parts.{overlay}
 use Rattle.refusals.specs.Checks.{first}
 use Rattle.packet.specs.Cut.{joined}
 use Rattle.transport.specs.Header.{starts, pointerOf, carriedBy}
 use Rattle.transport.specs.Load.{Load, plain, start}
 use Rattle.transport.specs.Tests.{pidOutside}
-use Rattle.carry.specs.Carry.{Outcome, packetsOf, loads, numbered, carryChecks}
+use Rattle.carry.specs.Carry.{Outcome, packetsOf, loads, numbered, carryChecks, transportsIn}
 use Rattle.carry.specs.Theorems.{Packets, streamOf, beginnings, AllRight}
 use Rattle.gather.specs.State.{fresh, gatherChecks}
 use Rattle.gather.specs.Gather.{takenOf}
 use Rattle.gather.specs.declared.Reader.{Reader}
 use Rattle.demands.specs.Library.{Library}
 
--- the first n transport packets of an output
-unfoldable pub transportsIn : ℕ → List ℕ → List (List ℕ)
-transportsIn zero out = []
-transportsIn (suc n) out = take 188 out ∷ transportsIn n (drop 188 out)
-
--- those that the writer counts
+-- the transport packets that the writer counts
 abbrev pub transports : Outcome → List (List ℕ)
 transports o = transportsIn (o .answer .packets) (o .out)
 
