@@ -1,11 +1,12 @@
 -- Wrong libraries that demand 3 refuses: each is ours but for one operation, and is refuted by one short journey.
 -- Assumes nothing.
 use mathlib.Core.Path.{_≡_, refl, sym, ap}
-use Prim.Native.Nat.{ℕ, _+_}
-use mathlib.Core.Bool.{Bool, true, false}
+use Prim.Native.Nat.{ℕ, zero, suc}
+use mathlib.Core.Bool.{Bool, true, false, cond}
 use mathlib.Core.List.{List, [], _∷_, _++_}
 use native.Mathlib.Omega.{arith}
-use lib.ListN.{length, getD, take, replicate, length-replicate}
+use lib.Dec.{leb}
+use lib.ListN.{length, getD, take, drop, replicate, length-replicate}
 use Rattle.fields.specs.Formats.{pack, unpack}
 use Rattle.fields.specs.Numbers.{number, bytes}
 use Rattle.fields.specs.Parts.{overlay}
@@ -13,15 +14,17 @@ use Rattle.fields.proofs.Cases.{true≢false}
 use Rattle.refusals.specs.Answers.{answer}
 use Rattle.crc.specs.Crc as crc
 use Rattle.packet.specs.Layout.{sizeOf}
-use Rattle.packet.specs.Cut.{judgeOf, cutBy, cut, batchFault, joined}
+use Rattle.packet.specs.Cut.{judgeOf, Cut, stop, more, cutBy, cut, batchFault, joined}
+use Rattle.packet.specs.declared.Judged.{Judged}
+use Rattle.packet.specs.declared.Judged.the-variants.{Short, Good}
 use Rattle.transport.specs.Header as transport
 use Rattle.transport.specs.Tests.{pidOutside, fieldLong, pointerBeyond, transportChecks}
-use Rattle.transport.specs.Load.{plain, headBytes, transportOf}
+use Rattle.transport.specs.Load.{headBytes, transportOf}
 use Rattle.carry.specs.Loads.{goneOf, loadsBy, loadsOf}
 use Rattle.carry.specs.Carry.{numbered, carryChecks, carryOf, transportsIn, Outcome}
-use Rattle.gather.specs.State.{startOf, unfit, gatherChecks}
+use Rattle.gather.specs.State.{fresh, startOf, unfit, gatherChecks}
 use Rattle.gather.specs.Marks.{noMarks}
-use Rattle.gather.specs.Rules.{broughtBy, ruleOne, joining, upToStart, fromStart, rulesOn}
+use Rattle.gather.specs.Rules.{none, Brought, broughtBy, Hand, waits, handsOut, ruleOne, strays, finishes, joining, upToStart, unfinished, fromStart, rulesOn}
 use Rattle.gather.specs.Gather as gathering
 use Rattle.gather.specs.Gather.{joiners, takenOf, gatherOf, refusedOf}
 use Rattle.gather.specs.declared.Marks.{Marks}
@@ -172,29 +175,54 @@ marks-all d =
     let m = journey (gatheredBy (marking true)) d (one ∷ []) (good, tt) (writers 0 ∷ []) (omega arith, tt) in
     true≢false (ap (λ (l : List Marks). getD l 0 noMarks .loss) (m .marked))
 
--- ---- Harbour: two halves joined across fifteen lost transport packets, and the CRC not looked at
+-- ---- Harbour: two halves joined across sixteen lost transport packets, and the CRC not looked at
 
--- Fifteen lost are no route: the next one is refused as a repeat, and to the one behind it the count says that nothing was lost.
--- What a reader then joins is of two packets, and only the CRC can tell. One that does not look hands it out
-abbrev pub skipsCrc : Reader → List ℕ → List ℕ → List ℕ → gathering.Outcome
-skipsCrc s t g o =
-    let joint = take (s .waiting) g ++ transport.carriedBy t in
-    let packet = take (sizeOf joint) joint in
-    record {
-      answer = record {
-        refusal = 0;
-        reader = record { pid = s .pid; last = Count (transport.countOf t); «in_step» = true; waiting = 0 };
-        bytes = length packet;
-        packets = 1;
-        marks = noMarks;
-      };
-      gathering = g;
-      output = overlay 0 packet o;
-    }
+-- by its own length alone a packet is finished, and good
+abbrev trusted : List ℕ → Judged
+trusted l = cond (leb (sizeOf l) (length l)) (Good (sizeOf l)) Short
 
--- six bytes of a packet of ten wait, and the last four of another come
-pub joins-halves : Demand3 (gatheredBy skipsCrc) → ⊥
+abbrev trustedCut : ℕ → List ℕ → Cut
+trustedCut zero l = stop l false
+trustedCut (suc k) l =
+    let n = sizeOf l in
+    let on = more (take n l) (trustedCut k (drop n l)) in
+    cond (leb n (length l)) on (stop l false)
+
+-- our rules 2 to 4, but for the CRC
+abbrev trustingFront : List ℕ → Hand → Hand
+trustingFront d h =
+    let l = h .waiting ++ d in
+    cond (h .step) (cond (none (h .waiting)) (strays d h) (finishes (trusted l) l h)) h
+
+abbrev trustingStart : List ℕ → Hand → Hand
+trustingStart l h = let c = trustedCut (length l) l in waits (c .rest) (handsOut (c .packets) h)
+
+abbrev trustingRules : Brought → Hand → Hand
+trustingRules b h = let front = trustingFront (b .before) h in cond (b .begins) (trustingStart (b .onward) (unfinished front)) front
+
+-- gathering as ours, with all its checks and rule 1
+abbrev pub trusting : Reader → List ℕ → List ℕ → List ℕ → gathering.Outcome
+trusting s t g o =
+    answer (gatherChecks s t (length g) (length o))
+    (refusedOf s g o)
+    (gathering.laidOf (s .pid) (broughtBy t) (gathering.enteredOf s t g) (trustingRules (broughtBy t) (gathering.enteredOf s t g)) g o)
+
+-- Nine batches of one packet of 193 bytes each: two transport packets for each, 0 to 17. Number 0 has 183 bytes of the first packet, and
+-- number 17 the last 10 of the ninth; of 16 lost between them the counts say nothing
+abbrev firstOf9 : List ℕ
+firstOf9 = 0x00 ∷ 0x05 ∷ 0x00 ∷ 0x00 ∷ 0x05 ∷ 0xB8 ∷ (replicate 183 0x11 ++ (0xF5 ∷ 0x1F ∷ 0x8A ∷ 0xCF ∷ []))
+
+abbrev lastOf9 : List ℕ
+lastOf9 = 0x00 ∷ 0x0D ∷ 0x00 ∷ 0x00 ∷ 0x05 ∷ 0xB8 ∷ (replicate 183 0x22 ++ (0xCA ∷ 0x61 ∷ 0x91 ∷ 0x77 ∷ []))
+
+-- number 16 has count 0 again
+abbrev half : List ℕ → ℕ → List ℕ
+half p k = getD (transportsIn 2 (carryOf 256 0 p (replicate 376 0) .out)) k []
+
+-- the first half waits in a buffer of 01's size, the second comes, and what they make is handed out; its CRC does not hold
+pub joins-halves : Demand3 (gatheredBy trusting) → ⊥
 unfolding gatherOf takenOf gatherChecks transportChecks unfit pidOutside fieldLong pointerBeyond transport.headerField transport.payloadAt transport.carriedAt transport.carriedBy broughtBy ruleOne joining upToStart fromStart rulesOn joiners judgeOf cutBy cut joined sizeOf crc.crcHolds crc.crcOf crc.run crc.feed crc.bitAt crc.shift overlay answer pack unpack number bytes batchFault numbered carryChecks carryOf loadsOf loadsBy goneOf headBytes transportOf startOf transportsIn
 joins-halves d =
-    let m = d .clean (record { pid = 256; last = Count 0; «in_step» = true; waiting = 6 }) (transportOf 256 1 (plain (1 ∷ 2 ∷ 3 ∷ 4 ∷ []))) (take 6 five) [] in
+    let begun = trusting (fresh 256) (half firstOf9 0) buffer space in
+    let m = d .clean (begun .answer .reader) (half lastOf9 1) (begun .gathering) space in
     let z : _≡_ {A = ℕ} 1 0 = m .number in omega arith
