@@ -175,6 +175,7 @@ stampReads =
     ∷ (23, replicate 12 0)
     ∷ (20, 0x10 ∷ replicate 10 0)
     ∷ (24, 0x06 ∷ replicate 10 0)
+    ∷ (24, 0x08 ∷ replicate 10 0)
     -- all ones but for the seconds
     ∷ (25, 0x05 ∷ (replicate 5 0 ++ replicate 5 0xFF))
     ∷ []
