@@ -17,7 +17,7 @@ use Rattle.fields.specs.Signed.{unsigned}
 use Rattle.fields.proofs.NumberLaws.{bytes-append}
 use Rattle.refusals.specs.Answers.{answer}
 use Rattle.packet.specs.Layout.{reservedType, padSet, sizeOf}
-use Rattle.packet.specs.Cut.{Whole, AllWhole, cut, cutBy, batchFault, joined}
+use Rattle.packet.specs.Cut.{Whole, AllWhole, cut, cutBy, batchFault, joined, judgeOf}
 use Rattle.packet.specs.Read as packet
 use Rattle.packet.specs.Write as packetWriting
 use Rattle.stamp.specs.Layout as stampLayout
@@ -49,7 +49,7 @@ use Rattle.demands.specs.Witnesses.{routes, AllRoutes, ten, small, heade
 -- ---- the numbers of each list
 
 pub refusals-shown : Refusals
-unfolding gatherChecks transportChecks unfit pidOutside fieldLong pointerBeyond transport.headerField transport.payloadAt carryChecks batchFault cut cutBy loadsOf loadsBy goneOf packet.readChecks packet.payloadOf packetWriting.writeChecks reservedType padSet sizeOf stamp.readChecks stamp.stampOf stampWriting.writeChecks stampLayout.secondReached stampLayout.isNull function.readChecks functionWriting.writeChecks functionWriting.unfit functionWriting.reserved bodyLong bodyWrong valueReserved bandwidthReserved bodyOf unsigned addressing.payloadChecks addressing.writeChecks walking.walkChecks walking.reached walking.endsAt walking.functionsFor walking.heardOf functionsOf faultOf faultIn entriesIn entriesBy groupChecks functionChecks mip.readChecks mip.addressingOf mipLayout.parametersOf mipWriting.writeChecks mipWriting.fieldWide emissionChecks extraChecks tooWide crcHolds crcOf run feed bitAt shift part numberAt number bytes pack unpack joined
+unfolding gatherChecks transportChecks unfit pidOutside fieldLong pointerBeyond transport.headerField transport.payloadAt carryChecks batchFault judgeOf cut cutBy loadsOf loadsBy goneOf packet.readChecks packet.payloadOf packetWriting.writeChecks reservedType padSet sizeOf stamp.readChecks stamp.stampOf stampWriting.writeChecks stampLayout.secondReached stampLayout.isNull function.readChecks functionWriting.writeChecks functionWriting.unfit functionWriting.reserved bodyLong bodyWrong valueReserved bandwidthReserved bodyOf unsigned addressing.payloadChecks addressing.writeChecks walking.walkChecks walking.reached walking.endsAt walking.functionsFor walking.heardOf functionsOf faultOf faultIn entriesIn entriesBy groupChecks functionChecks mip.readChecks mip.addressingOf mipLayout.parametersOf mipWriting.writeChecks mipWriting.fieldWide emissionChecks extraChecks tooWide crcHolds crcOf run feed bitAt shift part numberAt number bytes pack unpack joined
 refusals-shown =
     record {
       starting = (refl, (refl, tt));

@@ -23,7 +23,7 @@ use Rattle.addressing.specs.Payload as addressing
 use Rattle.addressing.specs.Walk.{walkChecks}
 use Rattle.mip.specs.Read as mip
 use Rattle.mip.specs.Write as mipWriting
-use Rattle.mip.specs.Timing.{emissionChecks, extraChecks}
+use Rattle.mip.specs.Timing.{steps, emissionChecks, extraChecks}
 use Rattle.mip.specs.declared.Mip.{Mip}
 use Rattle.transport.specs.Tests.{pidOutside}
 use Rattle.carry.specs.Carry as carrying
@@ -424,5 +424,5 @@ pub record Refusals : Type 0 where
   pub walk : Each (λ (x : ℕ × List ℕ × ℕ × ℕ). Gives (walkChecks house (x .1) (x .2) (x .3)) (x .0)) walks
   pub mipRead : Each (λ (x : ℕ × List ℕ). Gives (mip.readChecks (x .1)) (x .0)) mipReads
   pub mipWrite : Each (λ (x : ℕ × Mip × List ℕ × ℕ). Gives (mipWriting.writeChecks (x .1) (x .2) (x .3)) (x .0)) mipWrites
-  pub emission : Each (λ (x : ℕ × ℕ × ℕ × ℤ). Gives (emissionChecks (x .1) (x .2) (x .3)) (x .0)) emissions
-  pub extraDelay : Each (λ (x : ℕ × ℕ × ℕ × ℤ × ℕ). Gives (extraChecks (x .1) (x .2) (x .3) (x .4)) (x .0)) extraDelays
+  pub emission : Each (λ (x : ℕ × ℕ × ℕ × ℤ). Gives (emissionChecks (steps (x .1)) (steps (x .2)) (x .3)) (x .0)) emissions
+  pub extraDelay : Each (λ (x : ℕ × ℕ × ℕ × ℤ × ℕ). Gives (extraChecks (steps (x .1)) (steps (x .2)) (x .3) (steps (x .4))) (x .0)) extraDelays
