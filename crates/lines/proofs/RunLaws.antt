@@ -1,206 +1,235 @@
--- A whole listing: whatever the reader's output holds when a call comes, and wherever the lines are written out between, what is
--- printed is the header, a line for each packet handed out, and the totals.
+-- A whole listing: whatever the reads bring, and wherever the lines are written out between, what is printed is the listing of
+-- all bytes.
 -- Assumes nothing.
-use mathlib.Core.Path.{_≡_, refl, sym, ap, ap₂, _∙_}
+use mathlib.Core.Path.{_≡_, refl, sym, ap, ap₂, subst, _∙_}
 use mathlib.Core.Bool.{true, false}
 use mathlib.Core.List.{List, [], _∷_, _++_, append-assoc, append-nil}
-use Prim.Native.Nat.{ℕ, _+_, _-_, _*_, _^_, _≤_, _<_}
+use Prim.Native.Nat.{ℕ, zero, suc, _+_, _-_, _*_, _/_, _^_, _≤_, _<_}
 use native.Mathlib.Nat.{add-zero, zero-add, add-assoc}
 use native.Mathlib.Omega.{arith}
 use lib.Dec.{lit<}
-use lib.ListN.{length, take, replicate, length-append, length-drop, length-replicate}
-use lib.Seq.{length-take-le}
+use lib.ListN.{length, getD, take, drop, replicate, length-append, length-drop, length-replicate}
+use lib.Seq.{length-take-le, drop-drop, take-append-seam, drop-append-seam}
 use borrow.Author.Tests.{le-leb}
+use Rattle.fields.specs.Numbers.{Bytes}
 use Rattle.fields.specs.Parts.{overlay}
-use Rattle.fields.proofs.Cases.{cases, true≢false}
-use Rattle.fields.proofs.PartLaws.{overlay-is, take-overlay, take-front}
-use Rattle.gather.specs.State.{fresh}
+use Rattle.fields.proofs.Cases.{cases}
+use Rattle.fields.proofs.NumberLaws.{bytes-append, bytes-take, bytes-drop}
+use Rattle.fields.proofs.PartLaws.{length-overlay, take-front}
+use Rattle.refusals.specs.Checks.{_when_, first}
+use Rattle.transport.specs.Header.{countOf}
+use Rattle.transport.specs.Tests.{pidOutside, transportChecks}
+use Rattle.gather.specs.State.{fresh, repeats}
 use Rattle.gather.specs.Gather.{Outcome, gatherOf}
-use Rattle.gather.specs.Calls.{Call, callsOf, transportsOf, Spacious, handedBy, handedAll, marksAll}
-use Rattle.gather.specs.declared.Marks.{Marks}
-use Rattle.gather.proofs.CallLaws.{call-number, AllAlike, calls-alike}
+use Rattle.gather.specs.Calls.{callsOf, lent, handedBy, handedAll, marksAll}
+use Rattle.gather.proofs.StateLaws.{fresh-fit}
+use Rattle.gather.proofs.CallLaws.{call-number}
 use Rattle.text.specs.Laid.{space, newline, Filled, laid, appended}
-use Rattle.lines.specs.Lines.{headLine, lineOf, linesOf, lastLine}
-use Rattle.lines.specs.Listing.{listedPid, capped, bit, afterOf, roomy, Stepped, listedOf, stepOf}
-use Rattle.lines.specs.Theorems.{losses, textOf, listingOf, Run, shown, flushed, stepOn, ranOn, Holds, fed, fedAll, begun, ended, Ample}
-use Rattle.lines.specs.declared.Listing.{Listing}
 use Rattle.text.proofs.LayLaws.{appended-fits, word-few}
-use Rattle.lines.proofs.StepLaws.{step-full, step-goes, capped-same}
+use Rattle.lines.specs.Lines.{headLine, lineOf, linesOf, lastLine}
+use Rattle.lines.specs.Pieces.{pieces, leftover}
+use Rattle.lines.specs.Listing.{listedPid, startListing, capped, bit, afterOf, roomy, Feeding}
+use Rattle.lines.specs.Theorems.{losses, textOf, listingOf, listingOfBytes, Run, feedOn, wroteOn, fedUp, brought, took, tookAll, allBytes, printed, begun, ended, Ample}
+use Rattle.lines.specs.declared.Listing.{Listing}
+use Rattle.lines.proofs.PieceLaws.{pieces-none, leftover-none, pieces-append, leftover-append, leftover-is, pieces-from, each-piece}
+use Rattle.lines.proofs.StepLaws.{capped-same}
+use Rattle.lines.proofs.CallSound.{Sound, only-carriage}
+use Rattle.lines.proofs.Told.{Told, called, told, told-append, Went, fed-went}
 
--- ---- lines and totals add up
+-- ---- what pieces tell, in the words of the reader's calls
 
-pub lines-append : (ps qs : List (List ℕ)) → linesOf (ps ++ qs) ≡ linesOf ps ++ linesOf qs
+lines-append : (ps qs : List (List ℕ)) → linesOf (ps ++ qs) ≡ linesOf ps ++ linesOf qs
 unfolding linesOf
 lines-append [] qs = refl
 lines-append (p ∷ ps) qs = ap (λ (l : List ℕ). lineOf p ++ l) (lines-append ps qs) ∙ sym (append-assoc (lineOf p) (linesOf ps) (linesOf qs))
 
-pub capped-add : (n m : ℕ) → capped (capped n + m) ≡ capped (n + m)
+capped-add : (n m : ℕ) → capped (capped n + m) ≡ capped (n + m)
 unfolding capped
 capped-add n m = omega arith
 
--- ---- one piece
+abbrev answersTo : List (List ℕ) → Listing → List ℕ → List Outcome
+answersTo ps l g = callsOf (l .reader) g (lent (λ n. replicate 8385 0) ps)
 
--- what a piece does to a run, in the words of the reader's call on it
-record Fed (r e : Run) (a : Outcome) : Type 0 where
-  listing : e .listing ≡ afterOf (r .listing) (a .answer)
-  gathering : e .gathering ≡ a .gathering
-  shows : shown e ≡ shown r ++ linesOf (handedBy a)
-  within : e .filled ≤ length (e .lines)
-  room : length (r .lines) ≤ length (e .lines)
+record Tells (ps : List (List ℕ)) (l : Listing) (g : List ℕ) (n m : ℕ) : Type 0 where
+  packets : told ps l g .listing .packets ≡ capped (n + length (handedAll (answersTo ps l g)))
+  gaps : told ps l g .listing .gaps ≡ capped (m + losses (marksAll (answersTo ps l g)))
+  text : told ps l g .text ≡ linesOf (handedAll (answersTo ps l g))
 
-longer : (at : ℕ) (p l : List ℕ) → at ≤ length l → (length l ≤ length (overlay at p l)) × (at + length p ≤ length (overlay at p l))
-longer at p l h =
-    rw (overlay-is at p l) (simp (length-append, length-take-le at l h, length-drop) (omega arith, omega arith))
+tells : (ps : List (List ℕ)) (l : Listing) (g : List ℕ) (n m : ℕ) → l .packets ≡ capped n → l .gaps ≡ capped m → Tells ps l g n m
+unfolding losses linesOf
+tells [] l g n m p q = record { packets = p ∙ ap capped (sym (add-zero n)); gaps = q ∙ ap capped (sym (add-zero m)); text = refl }
+tells (t ∷ ps) l g n m p q =
+    let a : Outcome = called l g t in
+    let next : Listing = afterOf l (a .answer) in
+    let more : List Outcome = answersTo ps next (a .gathering) in
+    let pn : next .packets ≡ capped (n + length (handedBy a)) =
+    ap (λ (k : ℕ). capped (k + a .answer .packets)) p ∙ capped-add n (a .answer .packets) ∙ ap (λ (k : ℕ). capped (n + k)) (call-number (l .reader) t g (replicate 8385 0)) in
+    let qn : next .gaps ≡ capped (m + bit (a .answer .marks .loss)) =
+    ap (λ (k : ℕ). capped (k + bit (a .answer .marks .loss))) q ∙ capped-add m (bit (a .answer .marks .loss)) in
+    let r : Tells ps next (a .gathering) (n + length (handedBy a)) (m + bit (a .answer .marks .loss)) = tells ps next (a .gathering) _ _ pn qn in
+    let x : n + length (handedBy a) + length (handedAll more) ≡ n + length (handedBy a ++ handedAll more) = omega (arith, length-append (handedBy a) (handedAll more)) in
+    record {
+      packets = r .packets ∙ ap capped x;
+      gaps = r .gaps ∙ ap capped (add-assoc m (bit (a .answer .marks .loss)) (losses (marksAll more)));
+      text = ap (λ (l : List ℕ). linesOf (handedBy a) ++ l) (r .text) ∙ sym (lines-append (handedBy a) (handedAll more));
+    }
 
-module _ (x : Call) (r : Run) (w : r .filled ≤ length (r .lines)) where
-  abbrev call : Outcome
-  call = gatherOf (r .listing .reader) (x .transport) (r .gathering) (x .output)
+-- ---- feeding until it is not full
 
-  goes : roomy (r .filled) (length (x .output)) (length (r .lines)) ≡ true → stepOn x r ≡ listedOf (r .listing) call (r .lines) (r .filled)
-  goes h = step-goes (r .listing) (x .transport) (r .gathering) (x .output) (r .lines) (r .filled) h
+-- all pieces that waited are told, and the cut one waits
+record Emptied (r e : Run) : Type 0 where
+  listing : e .listing ≡ told (pieces (r .rest)) (r .listing) (r .gathering) .listing
+  gathering : e .gathering ≡ told (pieces (r .rest)) (r .listing) (r .gathering) .gathering
+  written : e .written ≡ r .written ++ told (pieces (r .rest)) (r .listing) (r .gathering) .text
+  rest : e .rest ≡ leftover (r .rest)
+  sound : Sound (e .listing .reader) (e .gathering) (e .output)
+  room : 2 * length (e .output) ≤ length (e .lines)
 
-  -- with room
-  fed-goes : roomy (r .filled) (length (x .output)) (length (r .lines)) ≡ true → Fed r (ranOn (stepOn x r) (r .written)) call
-  fed-goes h =
-      let p : List ℕ = linesOf (handedBy call) in
-      rw (goes h)
-      (record {
-        listing = refl;
-        gathering = refl;
-        shows = ap (λ (l : List ℕ). r .written ++ l) (take-overlay (r .filled) p (r .lines) w) ∙ sym (append-assoc (r .written) (take (r .filled) (r .lines)) p);
-        within = longer (r .filled) p (r .lines) w .1;
-        room = longer (r .filled) p (r .lines) w .0;
-      })
+emptied-none : (r : Run) → Sound (r .listing .reader) (r .gathering) (r .output) → 2 * length (r .output) ≤ length (r .lines) → pieces (r .rest) ≡ [] → Emptied r r
+emptied-none r k room e =
+    let t : told (pieces (r .rest)) (r .listing) (r .gathering) ≡ record { listing = r .listing; gathering = r .gathering; text = [] } =
+    ap (λ (ps : List (List ℕ)). told ps (r .listing) (r .gathering)) e in
+    record {
+      listing = sym (ap (λ (x : Told). x .listing) t);
+      gathering = sym (ap (λ (x : Told). x .gathering) t);
+      written = sym (ap (λ (x : Told). r .written ++ x .text) t ∙ append-nil (r .written));
+      rest = sym (leftover-is (r .rest) ∙ ap (λ (ps : List (List ℕ)). drop (188 * length ps) (r .rest)) e);
+      sound = k;
+      room = room;
+    }
 
-module _ (x : Call) (r : Run) (w : r .filled ≤ length (r .lines)) (ample : 2 * length (x .output) ≤ length (r .lines)) where
-  -- after the lines are written out there is room
-  roomy-again : roomy 0 (length (x .output)) (length (r .lines)) ≡ true
-  unfolding roomy
-  roomy-again = le-leb (0 + 2 * length (x .output)) (length (r .lines)) (omega arith)
+some-gone : (ps : List (List ℕ)) → (ps ≡ [] → ⊥) → 0 < length ps
+some-gone [] h = absurd (h refl)
+some-gone (p ∷ ps) h = omega arith
 
-  fed-flushed : Fed r (ranOn (stepOn x (flushed r)) (shown r)) (call x r w)
-  fed-flushed =
-      let f = fed-goes x (flushed r) (omega arith) roomy-again in
+module _ (r : Run) (d : Went (pieces (r .rest)) (r .listing) (r .gathering) (r .output) (r .lines) 0 0 (feedOn r)) where
+  abbrev next : Run
+  next = wroteOn r (feedOn r)
+
+  rest-next : next .rest ≡ drop (188 * length (d .gone)) (r .rest)
+  rest-next = ap (λ (n : ℕ). drop n (r .rest)) (d .bytes ∙ zero-add (188 * length (d .gone)))
+
+  pieces-next : pieces (next .rest) ≡ d .left
+  pieces-next = ap pieces rest-next ∙ pieces-from (d .gone) (d .left) (r .rest) (d .all)
+
+  leftover-next : leftover (next .rest) ≡ leftover (r .rest)
+  leftover-next =
+      let n : 188 * length (pieces (r .rest)) ≡ 188 * length (d .gone) + 188 * length (d .left) =
+      omega (arith, ap length (d .all), length-append (d .gone) (d .left)) in
+      leftover-is (next .rest)
+      ∙ ap₂ (λ (ps : List (List ℕ)) (l : List ℕ). drop (188 * length ps) l) pieces-next rest-next
+      ∙ drop-drop (188 * length (d .left)) (188 * length (d .gone)) (r .rest)
+      ∙ ap (λ (k : ℕ). drop k (r .rest)) (sym n)
+      ∙ sym (leftover-is (r .rest))
+
+  abbrev later : Told
+  later = told (pieces (next .rest)) (next .listing) (next .gathering)
+
+  -- what was gone is told, and then what is left
+  told-next : told (pieces (r .rest)) (r .listing) (r .gathering) ≡ record { listing = later .listing; gathering = later .gathering; text = told (d .gone) (r .listing) (r .gathering) .text ++ later .text }
+  told-next =
+      let g : List ℕ = told (d .gone) (r .listing) (r .gathering) .gathering in
+      let x : told (d .left) (told (d .gone) (r .listing) (r .gathering) .listing) g ≡ later =
+      λ i. told (sym pieces-next i) (sym (d .listing) i) (sym (d .gathering) i) in
+      ap (λ (ps : List (List ℕ)). told ps (r .listing) (r .gathering)) (d .all)
+      ∙ told-append (d .gone) (d .left) (r .listing) (r .gathering)
+      ∙ ap (λ (t : Told). record { listing = t .listing; gathering = t .gathering; text = told (d .gone) (r .listing) (r .gathering) .text ++ t .text }) x
+
+  emptied-next : (e : Run) → Emptied next e → Emptied r e
+  emptied-next e m =
       record {
-        listing = f .listing;
-        gathering = f .gathering;
-        shows = f .shows ∙ ap (λ (l : List ℕ). l ++ linesOf (handedBy (call x r w))) (append-nil (shown r));
-        within = f .within;
-        room = f .room;
+        listing = m .listing ∙ sym (ap (λ (t : Told). t .listing) told-next);
+        gathering = m .gathering ∙ sym (ap (λ (t : Told). t .gathering) told-next);
+        written = m .written
+            ∙ ap (λ (x : List ℕ). (r .written ++ x) ++ later .text) (d .text)
+            ∙ append-assoc (r .written) (told (d .gone) (r .listing) (r .gathering) .text) (later .text)
+            ∙ sym (ap (λ (t : Told). r .written ++ t .text) told-next);
+        rest = m .rest ∙ leftover-next;
+        sound = m .sound;
+        room = m .room;
       }
 
-  piece-fed : Fed r (fed x r) (call x r w)
-  unfolding fed
-  piece-fed =
-      cases (roomy (r .filled) (length (x .output)) (length (r .lines)))
-      (λ h. rw (ap (λ (s : Stepped). s .answer .full) (goes x r w h)) (fed-goes x r w h))
-      (λ h. rw (ap (λ (s : Stepped). s .answer .full) (step-full (r .listing) (x .transport) (r .gathering) (x .output) (r .lines) (r .filled) h)) fed-flushed)
+  room-next : 2 * length (r .output) ≤ length (r .lines) → 2 * length (next .output) ≤ length (next .lines)
+  room-next h = omega (arith, d .space, d .room)
 
--- ---- a piece as code takes it
+  -- where the lines were full they had room for one piece at least
+  fewer : 2 * length (r .output) ≤ length (r .lines) → feedOn r .answer .full ≡ true → length (d .left) < length (pieces (r .rest))
+  unfolding roomy
+  fewer h f =
+      let some : 0 < length (d .gone) = some-gone (d .gone) (λ e. d .stops f e (le-leb (0 + 2 * length (r .output)) (length (r .lines)) (omega arith))) in
+      omega (arith, ap length (d .all), length-append (d .gone) (d .left))
 
-holds-ran : (s : Stepped) (w : List ℕ) (r : Run) → ranOn s w ≡ r → Holds (s .answer .listing) (s .gathering) (s .lines) (s .answer .filled) r
-holds-ran s w r e = ap (λ (v : List ℕ). ranOn s v) (sym (ap (λ (x : Run). x .written) e)) ∙ e
+fed-up : (k : ℕ) (r : Run) → Bytes (r .rest) → Sound (r .listing .reader) (r .gathering) (r .output) → 2 * length (r .output) ≤ length (r .lines) → length (pieces (r .rest)) < k → Emptied r (fedUp k r)
+unfolding fedUp
+fed-up zero r b s room h = absurd (omega arith)
+fed-up (suc k) r b s room h =
+    let d : Went (pieces (r .rest)) (r .listing) (r .gathering) (r .output) (r .lines) 0 0 (feedOn r) =
+    fed-went (pieces (r .rest)) (each-piece (r .rest) b) (r .listing) (r .gathering) (r .output) (r .lines) 0 0 s (omega arith) in
+    cases (feedOn r .answer .full)
+    (λ f. rw f (emptied-next r d (fedUp k (next r d)) (fed-up k (next r d) (bytes-drop (feedOn r .answer .taken) (r .rest) b) (d .sound) (room-next r d room) (rw (pieces-next r d) (omega (arith, fewer r d room f))))))
+    (λ f. rw f (emptied-next r d (next r d) (emptied-none (next r d) (d .sound) (room-next r d room) (pieces-next r d ∙ d .ends f))))
 
-module _ (x : Call) (r : Run) (s : Stepped) (e : s ≡ stepOn x r) where
-  is-first : s .answer .full ≡ false → ranOn s (r .written) ≡ fed x r
-  unfolding fed
-  is-first h = rw (← e, h)
+-- ---- whatever the reads bring
 
-  is-second : s .answer .full ≡ true → ranOn (stepOn x (flushed r)) (shown r) ≡ fed x r
-  unfolding fed
-  is-second h = rw (← e, h)
+-- after the bytes d
+record After (g d : List ℕ) (r : Run) : Type 0 where
+  listing : r .listing ≡ told (pieces d) startListing g .listing
+  gathering : r .gathering ≡ told (pieces d) startListing g .gathering
+  written : r .written ≡ headLine ++ told (pieces d) startListing g .text
+  rest : r .rest ≡ leftover d
+  sound : Sound (r .listing .reader) (r .gathering) (r .output)
+  room : 2 * length (r .output) ≤ length (r .lines)
 
-  -- what is full leaves all as it was
-  as-it-was : s .answer .full ≡ true → s ≡ record { answer = record { full = true; listing = r .listing; filled = r .filled }; gathering = r .gathering; output = x .output; lines = r .lines }
-  as-it-was h =
-      cases (roomy (r .filled) (length (x .output)) (length (r .lines)))
-      (λ y. absurd (true≢false (sym h ∙ ap (λ (z : Stepped). z .answer .full) (e ∙ step-goes (r .listing) (x .transport) (r .gathering) (x .output) (r .lines) (r .filled) y))))
-      (λ y. e ∙ step-full (r .listing) (x .transport) (r .gathering) (x .output) (r .lines) (r .filled) y)
+bytes-front : (l m : List ℕ) → Bytes (l ++ m) → Bytes l
+bytes-front l m b i = subst (λ (x : List ℕ). getD x i 0 < 256) (take-append-seam l m) (bytes-take (length l) (l ++ m) b i)
 
-  pub fed-first : s .answer .full ≡ false → Holds (s .answer .listing) (s .gathering) (s .lines) (s .answer .filled) (fed x r)
-  fed-first h = holds-ran s (r .written) (fed x r) (is-first h)
+bytes-back : (l m : List ℕ) → Bytes (l ++ m) → Bytes m
+bytes-back l m b i = subst (λ (x : List ℕ). getD x i 0 < 256) (drop-append-seam l m) (bytes-drop (length l) (l ++ m) b i)
 
-  -- the second step finds the lines empty
-  pub fed-again : s .answer .full ≡ true → (t : Stepped) → t ≡ stepOf (r .listing) (x .transport) (s .gathering) (s .output) (s .lines) 0
-      → Holds (t .answer .listing) (t .gathering) (t .lines) (t .answer .filled) (fed x r)
-  fed-again h t f =
-      let v : t ≡ stepOn x (flushed r) = f ∙ ap (λ (z : Stepped). stepOf (r .listing) (x .transport) (z .gathering) (z .output) (z .lines) 0) (as-it-was h) in
-      holds-ran t (shown r) (fed x r) (ap (λ (z : Stepped). ranOn z (shown r)) v ∙ is-second h)
+module _ (g d : List ℕ) (r : Run) (a : After g d r) (c : List ℕ) (b : Bytes (d ++ c)) where
+  rest-bytes : Bytes (r .rest ++ c)
+  unfolding leftover
+  rest-bytes = bytes-append (r .rest) c (rw (a .rest) (bytes-drop (188 * (length d / 188)) d (bytes-front d c b))) (bytes-back d c b)
 
--- ---- all pieces
+  after-took : After g (d ++ c) (took c r)
+  after-took =
+      let m : Emptied (brought c r) (took c r) = fed-up (suc (length (pieces (r .rest ++ c)))) (brought c r) rest-bytes (a .sound) (a .room) (omega arith) in
+      let before : Told = told (pieces d) startListing g in
+      let more : Told = told (pieces (r .rest ++ c)) (r .listing) (r .gathering) in
+      let x : told (pieces (leftover d ++ c)) (before .listing) (before .gathering) ≡ more =
+      λ i. told (pieces (sym (a .rest) i ++ c)) (sym (a .listing) i) (sym (a .gathering) i) in
+      let whole : told (pieces (d ++ c)) startListing g ≡ record { listing = more .listing; gathering = more .gathering; text = before .text ++ more .text } =
+      ap (λ (ps : List (List ℕ)). told ps startListing g) (pieces-append c d)
+      ∙ told-append (pieces d) (pieces (leftover d ++ c)) startListing g
+      ∙ ap (λ (t : Told). record { listing = t .listing; gathering = t .gathering; text = before .text ++ t .text }) x in
+      record {
+        listing = m .listing ∙ sym (ap (λ (t : Told). t .listing) whole);
+        gathering = m .gathering ∙ sym (ap (λ (t : Told). t .gathering) whole);
+        written = m .written
+            ∙ ap (λ (l : List ℕ). l ++ more .text) (a .written)
+            ∙ append-assoc headLine (before .text) (more .text)
+            ∙ sym (ap (λ (t : Told). headLine ++ t .text) whole);
+        rest = m .rest ∙ ap (λ (l : List ℕ). leftover (l ++ c)) (a .rest) ∙ sym (leftover-append c d);
+        sound = m .sound;
+        room = m .room;
+      }
 
--- from r to e the reader answered so
-record Ran (r e : Run) (n m : ℕ) (answers : List Outcome) : Type 0 where
-  packets : e .listing .packets ≡ capped (n + length (handedAll answers))
-  gaps : e .listing .gaps ≡ capped (m + losses (marksAll answers))
-  shows : shown e ≡ shown r ++ linesOf (handedAll answers)
-  room : length (r .lines) ≤ length (e .lines)
-
-abbrev answersTo : List Call → Run → List Outcome
-answersTo xs r = callsOf (r .listing .reader) (r .gathering) xs
-
-module _ (x : Call) (xs : List Call) (r e : Run) where
-  abbrev a : Outcome
-  a = gatherOf (r .listing .reader) (x .transport) (r .gathering) (x .output)
-
-  module _ (d : Fed r e a) where
-    -- the reader goes on from where this piece left it
-    answers-on : answersTo (x ∷ xs) r ≡ a ∷ answersTo xs e
-    answers-on =
-        let s : a .answer .reader ≡ e .listing .reader = sym (ap (λ (l : Listing). l .reader) (d .listing)) in
-        let g : a .gathering ≡ e .gathering = sym (d .gathering) in
-        λ i. a ∷ callsOf (s i) (g i) xs
-
-    -- the totals after it
-    packets-on : (n : ℕ) → r .listing .packets ≡ capped n → e .listing .packets ≡ capped (n + length (handedBy a))
-    packets-on n h =
-        ap (λ (l : Listing). l .packets) (d .listing)
-        ∙ ap (λ (p : ℕ). capped (p + a .answer .packets)) h
-        ∙ capped-add n (a .answer .packets)
-        ∙ ap (λ (p : ℕ). capped (n + p)) (call-number (r .listing .reader) (x .transport) (r .gathering) (x .output))
-
-    gaps-on : (m : ℕ) → r .listing .gaps ≡ capped m → e .listing .gaps ≡ capped (m + bit (a .answer .marks .loss))
-    gaps-on m h =
-        ap (λ (l : Listing). l .gaps) (d .listing)
-        ∙ ap (λ (p : ℕ). capped (p + bit (a .answer .marks .loss))) h
-        ∙ capped-add m (bit (a .answer .marks .loss))
-
-    ran-on : (f : Run) (n m : ℕ) → Ran e f (n + length (handedBy a)) (m + bit (a .answer .marks .loss)) (answersTo xs e) → Ran r f n m (answersTo (x ∷ xs) r)
-    unfolding losses
-    ran-on f n m t =
-        let more : List Outcome = answersTo xs e in
-        let p : n + length (handedBy a) + length (handedAll more) ≡ n + length (handedBy a ++ handedAll more) = omega (arith, length-append (handedBy a) (handedAll more)) in
-        let q : m + bit (a .answer .marks .loss) + losses (marksAll more) ≡ m + (bit (a .answer .marks .loss) + losses (marksAll more)) = add-assoc m (bit (a .answer .marks .loss)) (losses (marksAll more)) in
-        rw answers-on
-        (record {
-          packets = t .packets ∙ ap capped p;
-          gaps = t .gaps ∙ ap capped q;
-          shows = t .shows
-              ∙ ap (λ (l : List ℕ). l ++ linesOf (handedAll more)) (d .shows)
-              ∙ append-assoc (shown r) (linesOf (handedBy a)) (linesOf (handedAll more))
-              ∙ ap (λ (l : List ℕ). shown r ++ l) (sym (lines-append (handedBy a) (handedAll more)));
-          room = omega (arith, t .room, d .room);
-        })
-
-ran-none : (r : Run) (n m : ℕ) → r .listing .packets ≡ capped n → r .listing .gaps ≡ capped m → Ran r r n m (answersTo [] r)
-unfolding losses linesOf
-ran-none r n m p q =
-    record { packets = p ∙ ap capped (sym (add-zero n)); gaps = q ∙ ap capped (sym (add-zero m)); shows = sym (append-nil (shown r)); room = omega arith }
-
-ran-all : (xs : List Call) (r : Run) (n m room : ℕ) → r .filled ≤ length (r .lines) → room ≤ length (r .lines) → Ample room xs
-    → r .listing .packets ≡ capped n → r .listing .gaps ≡ capped m → Ran r (fedAll xs r) n m (answersTo xs r)
-unfolding fedAll
-ran-all [] r n m room w h ample p q = ran-none r n m p q
-ran-all (x ∷ xs) r n m room w h ample p q =
-    let d : Fed r (fed x r) (a x xs r (fed x r)) = piece-fed x r w (omega (arith, ample .1)) in
-    ran-on x xs r (fed x r) d (fedAll xs (fed x r)) n m
-    (ran-all xs (fed x r) (n + length (handedBy (a x xs r (fed x r)))) (m + bit (a x xs r (fed x r) .answer .marks .loss)) room (d .within) (omega (arith, d .room)) (ample .2) (packets-on x xs r (fed x r) d n p) (gaps-on x xs r (fed x r) d m q))
+after-all : (g : List ℕ) (cs : List (List ℕ)) (d : List ℕ) (r : Run) → After g d r → Bytes (d ++ allBytes cs) → After g (d ++ allBytes cs) (tookAll cs r)
+after-all g [] d r a b = rw (append-nil d) a
+after-all g (c ∷ cs) d r a b =
+    let e : (d ++ c) ++ allBytes cs ≡ d ++ (c ++ allBytes cs) = append-assoc d c (allBytes cs) in
+    let all : Bytes ((d ++ c) ++ allBytes cs) = rw e b in
+    rw (← e) (after-all g cs (d ++ c) (took c r) (after-took g d r a c (bytes-front (d ++ c) (allBytes cs) all)) all)
 
 -- ---- the first line and the last
 
 capped-under : (n : ℕ) → capped n < 10 ^ 20
 unfolding capped
 capped-under n = omega arith
+
+capped-zero : 0 ≡ capped 0
+unfolding capped
+capped-zero = refl
 
 last-few : (n m : ℕ) → length (lastLine (capped n) (capped m)) ≤ 55
 unfolding lastLine
@@ -212,70 +241,75 @@ last-few n m =
 front-shown : (p lines : List ℕ) → take (0 + length p) (overlay 0 p lines) ≡ p
 front-shown p lines = ap (λ (k : ℕ). take k (overlay 0 p lines)) (zero-add (length p)) ∙ take-front p lines
 
-module _ (g lines : List ℕ) (long : 55 ≤ length lines) where
-  head-laid : appended headLine 0 lines ≡ laid headLine 0 lines
+printed-fits : (p lines : List ℕ) → length p ≤ length lines → take (appended p 0 lines .at) (appended p 0 lines .lines) ≡ p
+printed-fits p lines h = rw (appended-fits p 0 lines (omega arith)) (front-shown p lines)
+
+listed-inside : pidOutside listedPid ≡ false
+unfolding pidOutside
+listed-inside = refl
+
+module _ (g o lines : List ℕ) (bytes : Bytes g) (ample : Ample g o lines) where
+  after-none : After g [] (begun g o lines)
   unfolding headLine
-  head-laid = appended-fits headLine 0 lines (omega arith)
+  after-none =
+      let fits : 0 + length headLine ≤ length lines = omega (arith, ample .hands, ample .lays) in
+      let t : told (pieces []) startListing g ≡ record { listing = startListing; gathering = g; text = [] } =
+      ap (λ (ps : List (List ℕ)). told ps startListing g) (pieces-none [] (omega arith)) in
+      record {
+        listing = sym (ap (λ (x : Told). x .listing) t);
+        gathering = sym (ap (λ (x : Told). x .gathering) t);
+        written = printed-fits headLine lines (omega (arith, fits)) ∙ sym (ap (λ (x : Told). headLine ++ x .text) t ∙ append-nil headLine);
+        rest = sym (leftover-none [] (omega arith));
+        sound = record { fit = fresh-fit listedPid listed-inside; bytes = bytes; room = ample .gathers; space = ample .hands };
+        room = rw (appended-fits headLine 0 lines fits, length-overlay 0 headLine lines fits) (ample .lays);
+      }
 
-  begun-shown : shown (begun g lines) ≡ headLine
-  begun-shown = rw head-laid (front-shown headLine lines)
+  module _ (cs : List (List ℕ)) (b : Bytes (allBytes cs)) where
+    abbrev end : Run
+    end = tookAll cs (begun g o lines)
 
-  begun-within : begun g lines .filled ≤ length (begun g lines .lines)
-  begun-within = rw head-laid (longer 0 headLine lines (omega arith) .1)
+    abbrev answers : List Outcome
+    answers = answersTo (pieces (allBytes cs)) startListing g
 
-  begun-room : length lines ≤ length (begun g lines .lines)
-  begun-room = rw head-laid (longer 0 headLine lines (omega arith) .0)
+    after : After g (allBytes cs) end
+    after = after-all g cs [] (begun g o lines) after-none b
 
-module _ (r : Run) (n m : ℕ) (p : r .listing .packets ≡ capped n) (q : r .listing .gaps ≡ capped m) (long : 55 ≤ length (r .lines)) where
-  abbrev last : List ℕ
-  last = lastLine (capped n) (capped m)
+    told-all : Tells (pieces (allBytes cs)) startListing g 0 0
+    told-all = tells (pieces (allBytes cs)) startListing g 0 0 capped-zero capped-zero
 
-  last-laid : appended (lastLine (r .listing .packets) (r .listing .gaps)) 0 (r .lines) ≡ laid last 0 (r .lines)
-  last-laid = rw (p, q) (appended-fits last 0 (r .lines) (omega (arith, last-few n m)))
+    -- after each read the lines of all that it brought are written out
+    pub lines-at-once : end .written ≡ headLine ++ linesOf (handedAll answers)
+    lines-at-once = after .written ∙ ap (λ (l : List ℕ). headLine ++ l) (told-all .text)
 
-  ended-written : ended r .written ≡ shown r ++ last
-  ended-written =
-      ap (λ (f : Filled). (r .written ++ take (r .filled) (r .lines)) ++ take (f .at) (f .lines)) last-laid
-      ∙ ap (λ (l : List ℕ). shown r ++ l) (front-shown last (r .lines))
+    -- no call is refused but for what the transport packet is: a state as 38 says, a piece not of 188 bytes or a short
+    -- buffer there is none
+    pub only-packets-refused : (p : List ℕ) → length p ≡ 188 → Bytes p
+        → gatherOf (end .listing .reader) p (end .gathering) (end .output) .answer .refusal ≡ first (transportChecks (end .listing .reader .pid) p ++ (12 when repeats (end .listing .reader .last) (countOf p) ∷ []))
+    only-packets-refused p whole bp = only-carriage (end .listing .reader) p (end .gathering) (end .output) (after .sound) whole bp
 
--- ---- a whole listing
+    -- THE LISTING: the header, a line for each packet handed out, and the totals
+    pub listing-printed : ended end .written ≡ textOf answers
+    unfolding textOf
+    listing-printed =
+        let n : ℕ = length (handedAll answers) in
+        let m : ℕ = losses (marksAll answers) in
+        let p : end .listing .packets ≡ capped n = ap (λ (l : Listing). l .packets) (after .listing) ∙ told-all .packets ∙ ap capped (zero-add n) in
+        let q : end .listing .gaps ≡ capped m = ap (λ (l : Listing). l .gaps) (after .listing) ∙ told-all .gaps ∙ ap capped (zero-add m) in
+        let last : take (appended (lastLine (end .listing .packets) (end .listing .gaps)) 0 (end .lines) .at) (appended (lastLine (end .listing .packets) (end .listing .gaps)) 0 (end .lines) .lines) ≡ lastLine (capped n) (capped m) =
+        rw (p, q) (printed-fits (lastLine (capped n) (capped m)) (end .lines) (omega (arith, last-few n m, after .room, after .sound .space))) in
+        ap₂ (λ (x y : List ℕ). x ++ y) lines-at-once last ∙ append-assoc headLine (linesOf (handedAll answers)) (lastLine (capped n) (capped m))
 
-capped-zero : 0 ≡ capped 0
-unfolding capped
-capped-zero = refl
+zeros-bytes : (n : ℕ) → Bytes (replicate n 0)
+zeros-bytes zero i = lit< tt
+zeros-bytes (suc n) zero = lit< tt
+zeros-bytes (suc n) (suc i) = zeros-bytes n i
 
--- THE LISTING: what is written out at the end is the header, a line for each packet handed out, and the totals
-pub listing-printed : (xs : List Call) (g lines : List ℕ) → 55 ≤ length lines → Ample (length lines) xs
-    → ended (fedAll xs (begun g lines)) .written ≡ textOf (callsOf (fresh listedPid) g xs)
-unfolding textOf
-listing-printed xs g lines long ample =
-    let r : Run = begun g lines in
-    let e : Run = fedAll xs r in
-    let answers : List Outcome = answersTo xs r in
-    let marks : List Marks = marksAll answers in
-    let t : Ran r e 0 0 answers = ran-all xs r 0 0 (length lines) (begun-within g lines long) (begun-room g lines long) ample capped-zero capped-zero in
-    let last : List ℕ = lastLine (capped (length (handedAll answers))) (capped (losses marks)) in
-    ended-written e (length (handedAll answers)) (losses marks) (t .packets ∙ ap capped (zero-add (length (handedAll answers)))) (t .gaps ∙ ap capped (zero-add (losses marks))) (omega (arith, t .room, begun-room g lines long))
-    ∙ ap (λ (l : List ℕ). l ++ last) (t .shows ∙ ap (λ (l : List ℕ). l ++ linesOf (handedAll answers)) (begun-shown g lines long))
-    ∙ append-assoc headLine (linesOf (handedAll answers)) last
-
--- whatever the reader's output holds when a call comes
-text-alike : {a b : List Outcome} → AllAlike a b → textOf a ≡ textOf b
-unfolding textOf
-text-alike k =
-    ap₂ (λ (ps : List (List ℕ)) (ms : List Marks). headLine ++ (linesOf ps ++ lastLine (capped (length ps)) (capped (losses ms)))) (k .handed) (k .marks)
-
-ample-spacious : (room : ℕ) (xs : List Call) → Ample room xs → Spacious xs
-ample-spacious room [] h = tt
-ample-spacious room (x ∷ xs) h = (h .0, ample-spacious room xs (h .2))
-
--- the same with buffers of zeros, as a program begins: 01's listing
-pub program-prints : (xs : List Call) (lines : List ℕ) → 55 ≤ length lines → Ample (length lines) xs
-    → ended (fedAll xs (begun (replicate 8202 0) lines)) .written ≡ listingOf (transportsOf xs)
-unfolding listingOf
-program-prints xs lines long ample =
-    listing-printed xs (replicate 8202 0) lines long ample
-    ∙ text-alike (calls-alike xs (ample-spacious (length lines) xs ample) (λ n. replicate 8385 0) (λ n. rw (length-replicate {A = ℕ} 8385 0) (omega arith)) (fresh listedPid) (replicate 8202 0))
+-- with buffers as a program begins: 01's listing of all bytes, however the reads cut them
+pub program-prints : (cs : List (List ℕ)) → Bytes (allBytes cs) → (output lines : List ℕ) → 8385 ≤ length output → 2 * length output ≤ length lines
+    → ended (tookAll cs (begun (replicate 8202 0) output lines)) .written ≡ listingOfBytes (allBytes cs)
+unfolding listingOfBytes listingOf
+program-prints cs b output lines h k =
+    listing-printed (replicate 8202 0) output lines (zeros-bytes 8202) (record { gathers = rw (length-replicate {A = ℕ} 8202 0) (omega arith); hands = h; lays = k }) cs b
 
 -- ---- the totals are exact below two to the 64
 

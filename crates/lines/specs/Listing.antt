@@ -1,7 +1,7 @@
 -- One step of a listing: a transport packet goes to the reader, and what it hands out is counted and gets its lines.
 use Prim.Native.Nat.{ℕ, _+_, _-_, _*_, _^_, min}
 use mathlib.Core.Bool.{Bool, true, false, cond}
-use mathlib.Core.List.{List}
+use mathlib.Core.List.{List, [], _∷_}
 use lib.Dec.{leb}
 use lib.ListN.{length}
 use Rattle.fields.specs.Parts.{overlay}
@@ -10,6 +10,7 @@ use Rattle.gather.specs.Gather.{Outcome, gatherOf}
 use Rattle.gather.specs.Calls.{handedBy}
 use Rattle.gather.specs.declared.Gathered.{Gathered}
 use Rattle.lines.specs.Lines.{linesOf}
+use Rattle.lines.specs.declared.Fed.{Fed}
 use Rattle.lines.specs.declared.Listing.{Listing}
 use Rattle.lines.specs.declared.Step.{Step}
 
@@ -68,3 +69,31 @@ stepOf l t gathering output lines filled =
     cond (roomy filled (length output) (length lines))
     (listedOf l (gatherOf (l .reader) t gathering output) lines filled)
     (record { answer = record { full = true; listing = l; filled = filled }; gathering = gathering; output = output; lines = lines })
+
+-- ---- pieces, one after another
+
+pub record Feeding : Type 0 where
+  pub answer : Fed
+  pub gathering : List ℕ
+  pub output : List ℕ
+  pub lines : List ℕ
+
+-- a step for each piece, up to the first that finds too little room; `taken` counts the bytes of those before it
+unfoldable pub fedOf : List (List ℕ) → Listing → List ℕ → List ℕ → List ℕ → ℕ → ℕ → Feeding
+fedOf [] l gathering output lines taken filled =
+    record {
+      answer = record { full = false; listing = l; taken = taken; filled = filled };
+      gathering = gathering;
+      output = output;
+      lines = lines;
+    }
+fedOf (p ∷ ps) l gathering output lines taken filled =
+    let s = stepOf l p gathering output lines filled in
+    cond (s .answer .full)
+    (record {
+      answer = record { full = true; listing = l; taken = taken; filled = filled };
+      gathering = gathering;
+      output = output;
+      lines = lines;
+    })
+    (fedOf ps (s .answer .listing) (s .gathering) (s .output) (s .lines) (taken + 188) (s .answer .filled))

@@ -1,16 +1,17 @@
 -- What the theorems of the listing say: proofs/RunLaws proves them of specs/Listing.
-use Prim.Native.Nat.{ℕ, _+_, _*_, _≤_, _<_}
+use Prim.Native.Nat.{ℕ, zero, suc, _+_, _*_, _≤_}
 use mathlib.Core.Path.{_≡_}
 use mathlib.Core.Bool.{cond}
 use mathlib.Core.List.{List, [], _∷_, _++_}
-use lib.ListN.{length, getD, take, replicate}
+use lib.ListN.{length, take, drop, replicate}
 use Rattle.gather.specs.State.{fresh}
 use Rattle.gather.specs.Gather.{Outcome}
-use Rattle.gather.specs.Calls.{Call, callsOf, lent, handedAll, marksAll}
+use Rattle.gather.specs.Calls.{callsOf, lent, handedAll, marksAll}
 use Rattle.gather.specs.declared.Marks.{Marks}
 use Rattle.text.specs.Laid.{Filled, appended}
 use Rattle.lines.specs.Lines.{headLine, linesOf, lastLine}
-use Rattle.lines.specs.Listing.{listedPid, startListing, capped, bit, Stepped, stepOf}
+use Rattle.lines.specs.Pieces.{pieces}
+use Rattle.lines.specs.Listing.{listedPid, startListing, capped, bit, Feeding, fedOf}
 use Rattle.lines.specs.declared.Listing.{Listing}
 
 -- ---- what is to be printed for transport packets
@@ -29,61 +30,90 @@ textOf answers =
 unfoldable pub listingOf : List (List ℕ) → List ℕ
 listingOf ts = textOf (callsOf (fresh listedPid) (replicate 8202 0) (lent (λ n. replicate 8385 0) ts))
 
+-- of all bytes of an input: their whole pieces
+unfoldable pub listingOfBytes : List ℕ → List ℕ
+listingOfBytes d = listingOf (pieces d)
+
 -- ---- what a program does
 
--- between two transport packets: the state, the reader's gathering buffer, the lines with their filled part, and what
--- was written out already
+-- between two reads: the state and the three lent buffers, the bytes that wait for the rest of their piece, and what was
+-- written out already
 pub record Run : Type 0 where
   pub listing : Listing
   pub gathering : List ℕ
+  pub output : List ℕ
   pub lines : List ℕ
-  pub filled : ℕ
+  pub rest : List ℕ
   pub written : List ℕ
 
--- all that is printed so far, written out or not
-abbrev pub shown : Run → List ℕ
-shown r = r .written ++ take (r .filled) (r .lines)
+-- feeds what waits
+abbrev pub feedOn : Run → Feeding
+feedOn r = fedOf (pieces (r .rest)) (r .listing) (r .gathering) (r .output) (r .lines) 0 0
 
-abbrev pub flushed : Run → Run
-flushed r = record { listing = r .listing; gathering = r .gathering; lines = r .lines; filled = 0; written = shown r }
+-- the lines are written out, and what was taken waits no more
+abbrev pub wroteOn : Run → Feeding → Run
+wroteOn r f =
+    record {
+      listing = f .answer .listing;
+      gathering = f .gathering;
+      output = f .output;
+      lines = f .lines;
+      rest = drop (f .answer .taken) (r .rest);
+      written = r .written ++ take (f .answer .filled) (f .lines);
+    }
 
--- a transport packet, with the reader's output as it then is
-abbrev pub stepOn : Call → Run → Stepped
-stepOn x r = stepOf (r .listing) (x .transport) (r .gathering) (x .output) (r .lines) (r .filled)
+-- again while the lines are full, k times at most
+unfoldable pub fedUp : ℕ → Run → Run
+fedUp zero r = r
+fedUp (suc k) r = cond (feedOn r .answer .full) (fedUp k (wroteOn r (feedOn r))) (wroteOn r (feedOn r))
 
-abbrev pub ranOn : Stepped → List ℕ → Run
-ranOn s written =
-    record { listing = s .answer .listing; gathering = s .gathering; lines = s .lines; filled = s .answer .filled; written = written }
+-- a read brought these bytes: they wait behind the rest, and are fed. No more turns than pieces, and one, are needed
+abbrev pub brought : List ℕ → Run → Run
+brought chunk r =
+    record {
+      listing = r .listing;
+      gathering = r .gathering;
+      output = r .output;
+      lines = r .lines;
+      rest = r .rest ++ chunk;
+      written = r .written;
+    }
 
-abbrev pub runOf : Listing → List ℕ → List ℕ → ℕ → List ℕ → Run
-runOf l g lines filled written = record { listing = l; gathering = g; lines = lines; filled = filled; written = written }
+abbrev pub took : List ℕ → Run → Run
+took chunk r = fedUp (suc (length (pieces (r .rest ++ chunk)))) (brought chunk r)
 
--- what a program has of a run in hand: all but what is written out already
-abbrev pub Holds : Listing → List ℕ → List ℕ → ℕ → Run → Type 0
-Holds l g lines filled r = runOf l g lines filled (r .written) ≡ r
+-- whatever the reads bring, one after another
+abbrev pub tookAll : List (List ℕ) → Run → Run
+tookAll [] r = r
+tookAll (chunk ∷ chunks) r = tookAll chunks (took chunk r)
 
--- one step; where the lines are full they are written out, and it is taken again
-unfoldable pub fed : Call → Run → Run
-fed x r = cond (stepOn x r .answer .full) (ranOn (stepOn x (flushed r)) (shown r)) (ranOn (stepOn x r) (r .written))
+abbrev pub allBytes : List (List ℕ) → List ℕ
+allBytes [] = []
+allBytes (chunk ∷ chunks) = chunk ++ allBytes chunks
 
-unfoldable pub fedAll : List Call → Run → Run
-fedAll [] r = r
-fedAll (x ∷ xs) r = fedAll xs (fed x r)
+-- a text laid at the front of the lines, and written out
+abbrev pub printed : Filled → Run → Run
+printed f r =
+    record {
+      listing = r .listing;
+      gathering = r .gathering;
+      output = r .output;
+      lines = f .lines;
+      rest = r .rest;
+      written = r .written ++ take (f .at) (f .lines);
+    }
 
-abbrev pub laidOn : Filled → Run → Run
-laidOn f r = record { listing = r .listing; gathering = r .gathering; lines = f .lines; filled = f .at; written = r .written }
+-- the header at first, and the totals at the end
+abbrev pub begun : List ℕ → List ℕ → List ℕ → Run
+begun gathering output lines =
+    printed (appended headLine 0 lines)
+    (record { listing = startListing; gathering = gathering; output = output; lines = lines; rest = []; written = [] })
 
--- the header at first
-abbrev pub begun : List ℕ → List ℕ → Run
-begun g lines =
-    laidOn (appended headLine 0 lines) (record { listing = startListing; gathering = g; lines = lines; filled = 0; written = [] })
-
--- at the end what is filled is written out, then the totals
 abbrev pub ended : Run → Run
-ended r =
-    flushed (laidOn (appended (lastLine (r .listing .packets) (r .listing .gaps)) 0 (r .lines)) (flushed r))
+ended r = printed (appended (lastLine (r .listing .packets) (r .listing .gaps)) 0 (r .lines)) r
 
--- outputs as long as the reader wants them, and lines twice as long
-abbrev pub Ample : ℕ → List Call → Type 0
-Ample room [] = Unit
-Ample room (x ∷ xs) = (8385 ≤ length (x .output)) × (2 * length (x .output) ≤ room) × Ample room xs
+-- buffers of 01's sizes, and lines with room for the lines of any call
+pub record Ample (gathering output lines : List ℕ) : Type 0 where
+  pub gathers : 8202 ≤ length gathering
+  pub hands : 8385 ≤ length output
+  pub lays : 2 * length output ≤ length lines

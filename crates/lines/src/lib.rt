@@ -10,7 +10,8 @@ ghost use lib.ListN.{length};
 ghost use Rattle.packet.specs.Cut.{cut};
 ghost use Rattle.text.specs.Laid.{word, laid, appended};
 ghost use Rattle.lines.specs.Lines.{headLine, fieldsLine, refusedLine, lineBy, linesOf, lastLine};
-ghost use Rattle.lines.specs.Listing.{startListing, capped, bit, afterOf, roomy, stepOf};
+ghost use Rattle.lines.specs.Pieces.{pieces, keptOf};
+ghost use Rattle.lines.specs.Listing.{startListing, capped, bit, afterOf, roomy, stepOf, fedOf};
 
 // A listing under way: the reader, the packets that it handed out so far, and its loss marks.
 pub struct Listing {
@@ -24,6 +25,15 @@ pub struct Listing {
 pub struct Step {
     pub full: bool,
     pub listing: Listing,
+    pub filled: usize,
+}
+
+// What feeding a block gives: the next state, how many bytes of the block are taken, and how much of the lines is filled.
+// Where it is full it stopped before a piece whose lines may have too little room.
+pub struct Fed {
+    pub full: bool,
+    pub listing: Listing,
+    pub taken: usize,
     pub filled: usize,
 }
 
@@ -121,6 +131,23 @@ fn has_room(filled: usize, space: usize, room: usize) -> bool
     fields::within(filled + space, space, room)
 }
 
+// Moves the bytes of a block from at on, of the first have, to its front, and gives their number.
+pub fn keep_rest(block: &mut [u8], at: usize, have: usize) -> usize
+    ensures { λ r. ⌜ record { at = r; lines = now (block .exit) } ≡ keptOf at have (now (block .entry)) ⌝ }
+{
+    if block.len() < have {
+        return 0;
+    }
+    let mut n = 0;
+    let mut i = at;
+    while i < have {
+        block[n] = block[i];
+        n += 1;
+        i += 1;
+    }
+    n
+}
+
 // A total with more added; it stops at the largest number.
 fn counted(total: u64, more: u64) -> u64
     ensures { λ r. ⌜ r ≡ capped (total + more) ⌝ }
@@ -184,7 +211,7 @@ impl Listing {
     {
         if !has_room(filled, output.len(), lines.len()) {
             return Step {
-                full: true,
+                full: true, // nothing is done
                 listing: self,
                 filled,
             };
@@ -197,6 +224,42 @@ impl Listing {
         Step {
             full: false,
             listing,
+            filled,
+        }
+    }
+
+    // Takes the whole pieces of a block, and lays their lines from the front on.
+    pub fn feed(
+        self,
+        block: &[u8],
+        gathering: &mut [u8],
+        output: &mut [u8],
+        lines: &mut [u8],
+    ) -> Fed
+        ensures { λ r. ⌜ record { answer = r; gathering = now (gathering .exit); output = now (output .exit); lines = now (lines .exit) } ≡ fedOf (pieces (now (block .entry))) self (now (gathering .entry)) (now (output .entry)) (now (lines .entry)) 0 0 ⌝ }
+    {
+        let mut listing = self;
+        let mut i = 0;
+        let mut filled = 0;
+        while fields::within(i, 188, block.len()) {
+            let end = i + 188;
+            let next = listing.step(&block[i..end], gathering, output, lines, filled);
+            if next.full {
+                return Fed {
+                    full: true, // before this piece
+                    listing,
+                    taken: i, // it is fed again
+                    filled,
+                };
+            }
+            listing = next.listing;
+            filled = next.filled;
+            i = end;
+        }
+        Fed {
+            full: false, // no whole piece is left
+            listing,
+            taken: i,
             filled,
         }
     }
