@@ -17,6 +17,11 @@ use std::time::{Duration, Instant};
 
 const PID: u16 = 0x1000;
 
+/// More than three blocks of the program's input, and the lines that a long listing has
+/// at least.
+const LONG: usize = 600_000;
+const LONG_LINES: usize = 3_000;
+
 /// What must each be met in a run.
 const WANTED: [&str; 4] = ["refused 20", "refused 21", "refused 22", "gaps 1\n"];
 
@@ -33,23 +38,61 @@ pub fn compare(program: &[&str], seed: u64, seconds: u64) -> Result<String, Stri
             inputs.push(any_input(&mut prng));
         }
         let expected = listing::text(&inputs[runs]);
-        one_run(program, &inputs[runs], &expected)
+        one_run(program, &inputs[runs], usize::MAX, &expected)
             .map_err(|text| format!("{text}, seed {seed}"))?;
         for (times, wanted) in met.iter_mut().zip(WANTED) {
             *times += usize::from(expected.contains(wanted));
         }
         runs += 1;
     }
+    let lines = long_runs(program, &mut prng).map_err(|text| format!("{text}, seed {seed}"))?;
     match met.iter().position(|times| *times == 0) {
         Some(missing) => Err(format!("UNSEEN in the listing: {:?}", WANTED[missing])),
-        None => Ok(format!("listing runs {runs}\n")),
+        None => Ok(format!(
+            "listing runs {runs}, long ones with {lines} lines\n"
+        )),
     }
 }
 
-fn one_run(program: &[&str], input: &[u8], expected: &str) -> Outcome {
-    let (succeeded, printed) = run(program, input)?;
+/// Long inputs, in writes of odd sizes; gives how many lines they have in all.
+fn long_runs(program: &[&str], prng: &mut Prng) -> Result<usize, String> {
+    let small = small_packets();
+    let mixed = mixed_packets(prng);
+    // One byte at a time is slow: a tenth of it.
+    let runs = [
+        (&small[..], 65_537),
+        (&small[..], 1_000),
+        (&mixed[..], 187),
+        (&mixed[..], usize::MAX),
+        (&small[..LONG / 10], 1),
+    ];
+    let mut lines = 0;
+    for (input, size) in runs {
+        let expected = listing::text(input);
+        let count = expected.lines().count();
+        if count < LONG_LINES && input.len() >= LONG {
+            return Err(format!("a long listing has {count} lines"));
+        }
+        one_run(program, input, size, &expected)?;
+        lines += count;
+    }
+    Ok(lines)
+}
+
+/// Feeds the program the input in writes of this size.
+fn one_run(program: &[&str], input: &[u8], size: usize, expected: &str) -> Outcome {
+    let (succeeded, printed) = run(program, input, size)?;
     if succeeded && printed == expected.as_bytes() {
         return Ok(());
+    }
+    if input.len() > LONG / 20 {
+        let mut pairs = printed.iter().zip(expected.as_bytes());
+        let at = pairs.position(|(printed, wanted)| printed != wanted);
+        return Err(format!(
+            "success {succeeded}, writes of {size}, {} bytes and not {}, the first wrong at {at:?}: MISMATCH in a long listing",
+            printed.len(),
+            expected.len()
+        ));
     }
     Err(format!(
         "{}model:\n{expected}program (success: {succeeded}):\n{}MISMATCH in the listing",
@@ -59,7 +102,7 @@ fn one_run(program: &[&str], input: &[u8], expected: &str) -> Outcome {
 }
 
 /// Whether the program ended well, and what it printed.
-fn run(program: &[&str], input: &[u8]) -> Result<(bool, Vec<u8>), String> {
+fn run(program: &[&str], input: &[u8], size: usize) -> Result<(bool, Vec<u8>), String> {
     let fault = |error: std::io::Error| format!("{}: {error}", program.join(" "));
     let (name, words) = program.split_first().ok_or("no program to run")?;
     let mut child = Command::new(name)
@@ -72,7 +115,8 @@ fn run(program: &[&str], input: &[u8]) -> Result<(bool, Vec<u8>), String> {
     let input = input.to_vec();
     // In a thread, for the program may print before it has read all. If it ends
     // early its output tells more than the broken pipe.
-    let feeder = thread::spawn(move || drop(stdin.write_all(&input)));
+    let feeder =
+        thread::spawn(move || input.chunks(size).all(|part| stdin.write_all(part).is_ok()));
     let output = child.wait_with_output().map_err(fault)?;
     feeder.join().map_err(|_| "the feeding thread failed")?;
     Ok((output.status.success(), output.stdout))
@@ -102,6 +146,35 @@ fn fixed_inputs(prng: &mut Prng) -> Vec<Vec<u8>> {
         inputs.push(prng.bytes(len));
     }
     inputs
+}
+
+/// Packets of 10 bytes, eighteen in a transport packet: many lines for few bytes.
+fn small_packets() -> Vec<u8> {
+    let mut carried = 0;
+    let mut input = Vec::new();
+    let mut next = 0u32;
+    while input.len() < LONG {
+        let packets: Vec<_> = (next..next + 1_800)
+            .map(|n| compose(0x12, n as u8, (n / 256 % 16 * 16) as u8, 0, 0, &[]))
+            .collect();
+        input.extend(ways::written(PID, &mut carried, &packets).concat());
+        next += 1_800;
+    }
+    input
+}
+
+/// Packets of any kind, with small ones between them.
+fn mixed_packets(prng: &mut Prng) -> Vec<u8> {
+    let small = small_packets();
+    let mut input = Vec::new();
+    while input.len() < LONG {
+        input.extend(any_input(prng));
+        // Not always on a boundary: the reader finds its step again, or does not.
+        input.truncate(input.len() / TRANSPORT * TRANSPORT);
+        input.extend_from_slice(&small[..TRANSPORT * prng.between(1, 20)]);
+    }
+    input.extend(prng.bytes(100));
+    input
 }
 
 /// A journey on the listing's PID, of our writer's making or others', with a
