@@ -102,6 +102,12 @@ module _ (at have : ℕ) (b : List ℕ) where
         let l : m ≡ overlay 0 rest b = e ∙ ap (λ (p : List ℕ). overlay 0 p b) (take-all n rest (omega arith)) in
         rw (le-ltb (length b) have h) (λ i. record { at = a i; lines = l i })
 
+pub kept-at : (at have : ℕ) (b : List ℕ) (n : ℕ) (m : List ℕ) → have ≤ length b → record { at = n; lines = m } ≡ keptOf at have b → n ≡ have - at
+unfolding keptOf
+kept-at at have b n m h e =
+    let z : keptOf at have b .at ≡ 0 + length (part at (have - at) b) = rw (le-ltb (length b) have h) refl in
+    ap (λ (f : Filled). f .at) e ∙ z ∙ zero-add (length (part at (have - at) b)) ∙ length-rest at have b h
+
 -- what is kept lies in the block
 pub kept-within : (at have : ℕ) (b : List ℕ) (n : ℕ) (m : List ℕ) → record { at = n; lines = m } ≡ keptOf at have b → n ≤ length b
 unfolding keptOf

@@ -6,4 +6,5 @@ pub mod FeedLaws
 pub mod CallSound
 pub mod Told
 pub mod RunLaws
+pub mod ReachLaws
 pub mod Bench

@@ -78,6 +78,13 @@ leftover-is l =
     leftover-cons d h ∙ more ∙ drop-drop (188 * k) 188 d ∙ ap (λ (n : ℕ). drop n d) e ∙ rw (pieces-cons d h))
     (length l) l (omega arith)
 
+pub pieces-within : (l : List ℕ) → 188 * length (pieces l) ≤ length l
+pieces-within l =
+    by-pieces (λ d. 188 * length (pieces d) ≤ length d)
+    (λ d h. rw (pieces-none d h) (omega arith))
+    (λ d h more. rw (pieces-cons d h) (omega (arith, more, length-drop 188 d)))
+    (length l) l (omega arith)
+
 pub leftover-short : (l : List ℕ) → length (leftover l) < 188
 unfolding leftover
 leftover-short l = rw (length-drop (188 * (length l / 188)) l) (omega arith)

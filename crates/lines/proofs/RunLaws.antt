@@ -47,7 +47,7 @@ capped-add : (n m : ℕ) → capped (capped n + m) ≡ capped (n + m)
 unfolding capped
 capped-add n m = omega arith
 
-abbrev answersTo : List (List ℕ) → Listing → List ℕ → List Outcome
+abbrev pub answersTo : List (List ℕ) → Listing → List ℕ → List Outcome
 answersTo ps l g = callsOf (l .reader) g (lent (λ n. replicate 8385 0) ps)
 
 record Tells (ps : List (List ℕ)) (l : Listing) (g : List ℕ) (n m : ℕ) : Type 0 where
@@ -103,16 +103,16 @@ some-gone [] h = absurd (h refl)
 some-gone (p ∷ ps) h = omega arith
 
 module _ (r : Run) (d : Went (pieces (r .rest)) (r .listing) (r .gathering) (r .output) (r .lines) 0 0 (feedOn r)) where
-  abbrev next : Run
+  abbrev pub next : Run
   next = wroteOn r (feedOn r)
 
   rest-next : next .rest ≡ drop (188 * length (d .gone)) (r .rest)
   rest-next = ap (λ (n : ℕ). drop n (r .rest)) (d .bytes ∙ zero-add (188 * length (d .gone)))
 
-  pieces-next : pieces (next .rest) ≡ d .left
+  pub pieces-next : pieces (next .rest) ≡ d .left
   pieces-next = ap pieces rest-next ∙ pieces-from (d .gone) (d .left) (r .rest) (d .all)
 
-  leftover-next : leftover (next .rest) ≡ leftover (r .rest)
+  pub leftover-next : leftover (next .rest) ≡ leftover (r .rest)
   leftover-next =
       let n : 188 * length (pieces (r .rest)) ≡ 188 * length (d .gone) + 188 * length (d .left) =
       omega (arith, ap length (d .all), length-append (d .gone) (d .left)) in
@@ -149,7 +149,7 @@ module _ (r : Run) (d : Went (pieces (r .rest)) (r .listing) (r .gathering) (r .
         room = m .room;
       }
 
-  room-next : 2 * length (r .output) ≤ length (r .lines) → 2 * length (next .output) ≤ length (next .lines)
+  pub room-next : 2 * length (r .output) ≤ length (r .lines) → 2 * length (next .output) ≤ length (next .lines)
   room-next h = omega (arith, d .space, d .room)
 
   -- where the lines were full they had room for one piece at least
@@ -172,18 +172,18 @@ fed-up (suc k) r b s room h =
 -- ---- whatever the reads bring
 
 -- after the bytes d
-record After (g d : List ℕ) (r : Run) : Type 0 where
-  listing : r .listing ≡ told (pieces d) startListing g .listing
-  gathering : r .gathering ≡ told (pieces d) startListing g .gathering
-  written : r .written ≡ headLine ++ told (pieces d) startListing g .text
-  rest : r .rest ≡ leftover d
-  sound : Sound (r .listing .reader) (r .gathering) (r .output)
-  room : 2 * length (r .output) ≤ length (r .lines)
+pub record After (g d : List ℕ) (r : Run) : Type 0 where
+  pub listing : r .listing ≡ told (pieces d) startListing g .listing
+  pub gathering : r .gathering ≡ told (pieces d) startListing g .gathering
+  pub written : r .written ≡ headLine ++ told (pieces d) startListing g .text
+  pub rest : r .rest ≡ leftover d
+  pub sound : Sound (r .listing .reader) (r .gathering) (r .output)
+  pub room : 2 * length (r .output) ≤ length (r .lines)
 
-bytes-front : (l m : List ℕ) → Bytes (l ++ m) → Bytes l
+pub bytes-front : (l m : List ℕ) → Bytes (l ++ m) → Bytes l
 bytes-front l m b i = subst (λ (x : List ℕ). getD x i 0 < 256) (take-append-seam l m) (bytes-take (length l) (l ++ m) b i)
 
-bytes-back : (l m : List ℕ) → Bytes (l ++ m) → Bytes m
+pub bytes-back : (l m : List ℕ) → Bytes (l ++ m) → Bytes m
 bytes-back l m b i = subst (λ (x : List ℕ). getD x i 0 < 256) (drop-append-seam l m) (bytes-drop (length l) (l ++ m) b i)
 
 module _ (g d : List ℕ) (r : Run) (a : After g d r) (c : List ℕ) (b : Bytes (d ++ c)) where
@@ -248,7 +248,32 @@ listed-inside : pidOutside listedPid ≡ false
 unfolding pidOutside
 listed-inside = refl
 
+module _ (g d : List ℕ) (e : Run) (a : After g d e) where
+  abbrev all : List Outcome
+  all = answersTo (pieces d) startListing g
+
+  told-all : Tells (pieces d) startListing g 0 0
+  told-all = tells (pieces d) startListing g 0 0 capped-zero capped-zero
+
+  after-shows : e .written ≡ headLine ++ linesOf (handedAll all)
+  after-shows = a .written ∙ ap (λ (l : List ℕ). headLine ++ l) (told-all .text)
+
+  -- the totals behind it
+  pub after-prints : ended e .written ≡ textOf all
+  unfolding textOf
+  after-prints =
+      let n : ℕ = length (handedAll all) in
+      let m : ℕ = losses (marksAll all) in
+      let p : e .listing .packets ≡ capped n = ap (λ (l : Listing). l .packets) (a .listing) ∙ told-all .packets ∙ ap capped (zero-add n) in
+      let q : e .listing .gaps ≡ capped m = ap (λ (l : Listing). l .gaps) (a .listing) ∙ told-all .gaps ∙ ap capped (zero-add m) in
+      let last : take (appended (lastLine (e .listing .packets) (e .listing .gaps)) 0 (e .lines) .at) (appended (lastLine (e .listing .packets) (e .listing .gaps)) 0 (e .lines) .lines) ≡ lastLine (capped n) (capped m) =
+      rw (p, q) (printed-fits (lastLine (capped n) (capped m)) (e .lines) (omega (arith, last-few n m, a .room, a .sound .space))) in
+      ap₂ (λ (x y : List ℕ). x ++ y) after-shows last ∙ append-assoc headLine (linesOf (handedAll all)) (lastLine (capped n) (capped m))
+
 module _ (g o lines : List ℕ) (bytes : Bytes g) (ample : Ample g o lines) where
+  pub start-sound : Sound (startListing .reader) g o
+  start-sound = record { fit = fresh-fit listedPid listed-inside; bytes = bytes; room = ample .gathers; space = ample .hands }
+
   after-none : After g [] (begun g o lines)
   unfolding headLine
   after-none =
@@ -260,7 +285,7 @@ module _ (g o lines : List ℕ) (bytes : Bytes g) (ample : Ample g o lines) wher
         gathering = sym (ap (λ (x : Told). x .gathering) t);
         written = printed-fits headLine lines (omega (arith, fits)) ∙ sym (ap (λ (x : Told). headLine ++ x .text) t ∙ append-nil headLine);
         rest = sym (leftover-none [] (omega arith));
-        sound = record { fit = fresh-fit listedPid listed-inside; bytes = bytes; room = ample .gathers; space = ample .hands };
+        sound = start-sound;
         room = rw (appended-fits headLine 0 lines fits, length-overlay 0 headLine lines fits) (ample .lays);
       }
 
@@ -274,12 +299,9 @@ module _ (g o lines : List ℕ) (bytes : Bytes g) (ample : Ample g o lines) wher
     after : After g (allBytes cs) end
     after = after-all g cs [] (begun g o lines) after-none b
 
-    told-all : Tells (pieces (allBytes cs)) startListing g 0 0
-    told-all = tells (pieces (allBytes cs)) startListing g 0 0 capped-zero capped-zero
-
     -- after each read the lines of all that it brought are written out
     pub lines-at-once : end .written ≡ headLine ++ linesOf (handedAll answers)
-    lines-at-once = after .written ∙ ap (λ (l : List ℕ). headLine ++ l) (told-all .text)
+    lines-at-once = after-shows g (allBytes cs) end after
 
     -- no call is refused but for what the transport packet is: a state as 38 says, a piece not of 188 bytes or a short
     -- buffer there is none
@@ -289,17 +311,9 @@ module _ (g o lines : List ℕ) (bytes : Bytes g) (ample : Ample g o lines) wher
 
     -- THE LISTING: the header, a line for each packet handed out, and the totals
     pub listing-printed : ended end .written ≡ textOf answers
-    unfolding textOf
-    listing-printed =
-        let n : ℕ = length (handedAll answers) in
-        let m : ℕ = losses (marksAll answers) in
-        let p : end .listing .packets ≡ capped n = ap (λ (l : Listing). l .packets) (after .listing) ∙ told-all .packets ∙ ap capped (zero-add n) in
-        let q : end .listing .gaps ≡ capped m = ap (λ (l : Listing). l .gaps) (after .listing) ∙ told-all .gaps ∙ ap capped (zero-add m) in
-        let last : take (appended (lastLine (end .listing .packets) (end .listing .gaps)) 0 (end .lines) .at) (appended (lastLine (end .listing .packets) (end .listing .gaps)) 0 (end .lines) .lines) ≡ lastLine (capped n) (capped m) =
-        rw (p, q) (printed-fits (lastLine (capped n) (capped m)) (end .lines) (omega (arith, last-few n m, after .room, after .sound .space))) in
-        ap₂ (λ (x y : List ℕ). x ++ y) lines-at-once last ∙ append-assoc headLine (linesOf (handedAll answers)) (lastLine (capped n) (capped m))
+    listing-printed = after-prints g (allBytes cs) end after
 
-zeros-bytes : (n : ℕ) → Bytes (replicate n 0)
+pub zeros-bytes : (n : ℕ) → Bytes (replicate n 0)
 zeros-bytes zero i = lit< tt
 zeros-bytes (suc n) zero = lit< tt
 zeros-bytes (suc n) (suc i) = zeros-bytes n i

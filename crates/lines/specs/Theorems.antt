@@ -1,7 +1,7 @@
 -- What the theorems of the listing say: proofs/RunLaws proves them of specs/Listing.
-use Prim.Native.Nat.{ℕ, zero, suc, _+_, _*_, _≤_}
+use Prim.Native.Nat.{ℕ, zero, suc, _+_, _*_, _≤_, _<_}
 use mathlib.Core.Path.{_≡_}
-use mathlib.Core.Bool.{cond}
+use mathlib.Core.Bool.{Bool, true, cond}
 use mathlib.Core.List.{List, [], _∷_, _++_}
 use lib.ListN.{length, take, drop, replicate}
 use Rattle.gather.specs.State.{fresh}
@@ -117,3 +117,42 @@ pub record Ample (gathering output lines : List ℕ) : Type 0 where
   pub gathers : 8202 ≤ length gathering
   pub hands : 8385 ≤ length output
   pub lays : 2 * length output ≤ length lines
+
+-- ---- what a program that reads and writes can be said to have done
+
+-- a run from r on: bytes are read, and what waits is fed and written out, in any order. The bytes are those that it read
+pub data Ran (r : Run) : List ℕ → Run → Type 0 where
+  begins : Ran r [] r
+  reads : (d : List ℕ) (e : Run) (chunk : List ℕ) → Ran r d e → Ran r (d ++ chunk) (brought chunk e)
+  feeds : (d : List ℕ) (e : Run) → Ran r d e → Ran r d (wroteOn e (feedOn e))
+
+-- after the header
+abbrev pub opened : List ℕ → List ℕ → List ℕ → Run
+opened gathering output lines =
+    record {
+      listing = startListing;
+      gathering = gathering;
+      output = output;
+      lines = lines;
+      rest = [];
+      written = headLine;
+    }
+
+-- some run came to this state, with these bytes waiting
+pub record Reached (from : Run) (l : Listing) (gathering output lines rest : List ℕ) : Type 0 where
+  pub bytes : List ℕ
+  pub written : List ℕ
+  pub ran : Ran from bytes (record {
+    listing = l;
+    gathering = gathering;
+    output = output;
+    lines = lines;
+    rest = rest;
+    written = written;
+  })
+
+-- how a program ends: after some run, and where the listing is whole no piece is left
+pub record Ends (from : Run) (l : Listing) (gathering output lines : List ℕ) (whole : Bool) : Type 0 where
+  pub rest : List ℕ
+  pub reached : Reached from l gathering output lines rest
+  pub short : whole ≡ true → length rest < 188

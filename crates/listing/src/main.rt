@@ -7,7 +7,9 @@ use libc::STDOUT_FILENO;
 use lines::Listing;
 ghost use mathlib.Core.Path.{_≡_};
 ghost use Prim.Native.Nat.{_≤_};
+ghost use mathlib.Core.Bool.{false};
 ghost use lib.ListN.{length, take};
+ghost use Rattle.lines.specs.Theorems.{opened, Ends};
 
 // Where a listing stands, and whether it is whole: the input came to its end, and all lines are written out.
 struct Listed {
@@ -51,7 +53,7 @@ struct Came {
 // fed yet.
 fn more(block: &mut [u8], have: usize, full: bool) -> Came
     requires { ⌜ have ≤ length (now block) ⌝ }
-    ensures { λ r. ⌜ (have ≤ r .have) × (r .have ≤ length (now (block .exit))) × (take have (now (block .exit)) ≡ take have (now (block .entry))) ⌝ }
+    ensures { λ r. ⌜ (have ≤ r .have) × (r .have ≤ length (now (block .exit))) × (take have (now (block .exit)) ≡ take have (now (block .entry))) × (r .goes ≡ false → full ≡ false) ⌝ }
 {
     if full {
         return Came {
@@ -78,8 +80,11 @@ fn more(block: &mut [u8], have: usize, full: bool) -> Came
 
 // Lists standard input to its end. After each read all its whole pieces are fed and their lines written out, before the next
 // read; the cut one waits at the block's front. A proved loop has to end, and nothing says that the input does: it counts
-// its turns down from a number that no run uses up.
-fn list_all(block: &mut [u8], gathering: &mut [u8], output: &mut [u8], lines: &mut [u8]) -> Listed {
+// its turns down from a number that no run uses up. The contract: some run (lines, specs/Theorems) came to the state that
+// it ends in, and where the listing is whole it left no piece.
+fn list_all(block: &mut [u8], gathering: &mut [u8], output: &mut [u8], lines: &mut [u8]) -> Listed
+    ensures { λ r. ⌜ Ends (opened (now (gathering .entry)) (now (output .entry)) (now (lines .entry))) (r .listing) (now (gathering .exit)) (now (output .exit)) (now (lines .exit)) (r .whole) ⌝ }
+{
     let mut listing = Listing::start();
     let mut have: usize = 0;
     let mut full = false;

@@ -2,15 +2,20 @@
 -- Assumes nothing.
 use borrow.Author.Needs.{needs}
 use denote.Ref.{now}
-use lib.ListN.{length, take, drop}
+use lib.ListN.{take}
 use lib.Seq.{length-take-le, take-at}
-use mathlib.Core.Path.{_≡_, sym, ap, _∙_}
-use native.Mathlib.Omega.{arith}
+use mathlib.Core.Path.{_≡_, refl}
+use mathlib.Core.Bool.{false}
+use Rattle.fields.proofs.Cases.{true≢false}
 use Rattle.listing.proofs.more.Statement.{statement}
 use Rattle.listing.proofs.more.Tie as tie
 
+-- all pieces are fed
+not-full : (k : tie.Else1) → k .before .before .args .full ≡ false
+not-full k = k .if1 .left
+
 returns : tie.Need-returns
-returns c = search needs
+returns c = (search needs, search needs, refl, λ e. absurd (true≢false e))
 
 sub-read : tie.Need-sub-read
 sub-read c = search needs
@@ -33,7 +38,7 @@ same-length c = search needs
 returns-2 : tie.Need-returns-2
 returns-2 c =
     let a = c .before .before .before .before .before .before .before .before .args in
-    (search needs, search needs, take-at (take (a .have) (now (a .block))) _ (a .have) (length-take-le (a .have) (now (a .block)) (c .before .before .before .before .before .before .before .before .pre)))
+    (search needs, search needs, take-at (take (a .have) (now (a .block))) _ (a .have) (length-take-le (a .have) (now (a .block)) (c .before .before .before .before .before .before .before .before .pre)), λ e. not-full (c .before .before .before .before .before .before))
 
 sub-count : tie.Need-sub-count
 sub-count c = search needs
@@ -56,7 +61,7 @@ same-length-2 c = search needs
 returns-3 : tie.Need-returns-3
 returns-3 c =
     let a = c .before .before .before .before .before .before .before .before .before .before .args in
-    (search needs, search needs, take-at (take (a .have) (now (a .block))) _ (a .have) (length-take-le (a .have) (now (a .block)) (c .before .before .before .before .before .before .before .before .before .before .pre)))
+    (search needs, search needs, take-at (take (a .have) (now (a .block))) _ (a .have) (length-take-le (a .have) (now (a .block)) (c .before .before .before .before .before .before .before .before .before .before .pre)), λ e. not-full (c .before .before .before .before .before .before .before .before))
 
 pub more-spec : {M : Type 1} → statement M
 more-spec =
