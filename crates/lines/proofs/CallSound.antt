@@ -1,7 +1,7 @@
 -- A reader that was started, and lent buffers of 01's sizes: every call leaves it so. So none is refused as 38, 1, 2 or 3.
 -- Assumes nothing.
-use mathlib.Core.Path.{_≡_, refl, sym, ap, _∙_}
-use mathlib.Core.Bool.{true, false}
+use mathlib.Core.Path.{_≡_, refl, _∙_}
+use mathlib.Core.Bool.{false}
 use mathlib.Core.List.{List, [], _∷_, _++_}
 use Prim.Native.Nat.{ℕ, _+_, _-_, _≤_}
 use native.Mathlib.Omega.{arith}
@@ -19,9 +19,9 @@ use Rattle.transport.specs.Header.{countOf}
 use Rattle.transport.specs.Tests.{transportChecks}
 use Rattle.gather.specs.State.{unfit, repeats, gatherChecks}
 use Rattle.gather.specs.Rules.{none, Hand, broughtBy}
-use Rattle.gather.specs.Gather.{Outcome, enteredOf, resultOf, joiners, takenOf, gatherOf}
+use Rattle.gather.specs.Gather.{enteredOf, resultOf, joiners, takenOf, gatherOf}
 use Rattle.gather.specs.declared.Reader.{Reader}
-use Rattle.gather.proofs.StateLaws.{no-bytes, before-bytes, entered-bytes, result-bytes, gather-shows, gather-fit}
+use Rattle.gather.proofs.StateLaws.{no-bytes, before-bytes, result-bytes, gather-shows, gather-fit}
 use Rattle.gather.proofs.HandedLaws.{packets-few}
 use Rattle.gather.proofs.ReadingLaws.{taken-room}
 use Rattle.gather.proofs.CallLaws.{call-cases}

@@ -1,9 +1,9 @@
 -- Runs in any order: what a program that reads, feeds and keeps the rest has reached, and what is printed where it ends.
 -- Assumes nothing.
 use mathlib.Core.Path.{_≡_, refl, sym, ap, ap₂, subst, _∙_}
-use mathlib.Core.Bool.{Bool, true, false}
+use mathlib.Core.Bool.{Bool, false}
 use mathlib.Core.List.{List, [], _∷_, _++_, append-assoc, append-nil}
-use Prim.Native.Nat.{ℕ, suc, _+_, _-_, _*_, _≤_, _<_}
+use Prim.Native.Nat.{ℕ, _+_, _-_, _*_, _≤_, _<_}
 use native.Mathlib.Nat.{zero-add}
 use native.Mathlib.Omega.{arith}
 use lib.ListN.{length, take, drop, replicate, length-drop, length-replicate}
@@ -17,14 +17,14 @@ use Rattle.fields.proofs.PartLaws.{drop-part, take-front}
 use Rattle.text.specs.Laid.{Filled}
 use Rattle.lines.specs.Lines.{headLine}
 use Rattle.lines.specs.Pieces.{pieces, leftover, keptOf}
-use Rattle.lines.specs.Listing.{listedPid, startListing, roomy, Stepped, stepOf, Feeding, fedOf}
-use Rattle.lines.specs.Theorems.{textOf, listingOf, listingOfBytes, Run, feedOn, wroteOn, brought, ended, Ample, Ran, begins, reads, feeds, opened, Reached, Ends}
+use Rattle.lines.specs.Listing.{startListing, Stepped, stepOf, Feeding, fedOf}
+use Rattle.lines.specs.Theorems.{listingOf, listingOfBytes, Run, feedOn, wroteOn, brought, ended, Ample, Ran, begins, reads, feeds, opened, Reached, Ends}
 use Rattle.lines.specs.declared.Listing.{Listing}
 use Rattle.lines.proofs.PieceLaws.{pieces-none, leftover-none, pieces-within, leftover-is, leftover-short, pieces-append, leftover-append, each-piece}
 use Rattle.lines.proofs.FeedLaws.{kept-at}
 use Rattle.lines.proofs.CallSound.{Sound}
 use Rattle.lines.proofs.Told.{Told, told, told-append, Went, fed-went}
-use Rattle.lines.proofs.RunLaws.{After, answersTo, next, pieces-next, leftover-next, room-next, bytes-front, bytes-back, start-sound, after-prints, zeros-bytes}
+use Rattle.lines.proofs.RunLaws.{After, pieces-next, leftover-next, room-next, bytes-front, bytes-back, start-sound, after-prints, zeros-bytes}
 
 -- ---- how the program begins and ends
 

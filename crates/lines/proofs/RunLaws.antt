@@ -8,8 +8,8 @@ use Prim.Native.Nat.{ℕ, zero, suc, _+_, _-_, _*_, _/_, _^_, _≤_, _<_}
 use native.Mathlib.Nat.{add-zero, zero-add, add-assoc}
 use native.Mathlib.Omega.{arith}
 use lib.Dec.{lit<}
-use lib.ListN.{length, getD, take, drop, replicate, length-append, length-drop, length-replicate}
-use lib.Seq.{length-take-le, drop-drop, take-append-seam, drop-append-seam}
+use lib.ListN.{length, getD, take, drop, replicate, length-append, length-replicate}
+use lib.Seq.{drop-drop, take-append-seam, drop-append-seam}
 use borrow.Author.Tests.{le-leb}
 use Rattle.fields.specs.Numbers.{Bytes}
 use Rattle.fields.specs.Parts.{overlay}
@@ -19,17 +19,17 @@ use Rattle.fields.proofs.PartLaws.{length-overlay, take-front}
 use Rattle.refusals.specs.Checks.{_when_, first}
 use Rattle.transport.specs.Header.{countOf}
 use Rattle.transport.specs.Tests.{pidOutside, transportChecks}
-use Rattle.gather.specs.State.{fresh, repeats}
+use Rattle.gather.specs.State.{repeats}
 use Rattle.gather.specs.Gather.{Outcome, gatherOf}
 use Rattle.gather.specs.Calls.{callsOf, lent, handedBy, handedAll, marksAll}
 use Rattle.gather.proofs.StateLaws.{fresh-fit}
 use Rattle.gather.proofs.CallLaws.{call-number}
-use Rattle.text.specs.Laid.{space, newline, Filled, laid, appended}
+use Rattle.text.specs.Laid.{space, newline, appended}
 use Rattle.text.proofs.LayLaws.{appended-fits, word-few}
 use Rattle.lines.specs.Lines.{headLine, lineOf, linesOf, lastLine}
 use Rattle.lines.specs.Pieces.{pieces, leftover}
-use Rattle.lines.specs.Listing.{listedPid, startListing, capped, bit, afterOf, roomy, Feeding}
-use Rattle.lines.specs.Theorems.{losses, textOf, listingOf, listingOfBytes, Run, feedOn, wroteOn, fedUp, brought, took, tookAll, allBytes, printed, begun, ended, Ample}
+use Rattle.lines.specs.Listing.{listedPid, startListing, capped, bit, afterOf, roomy}
+use Rattle.lines.specs.Theorems.{losses, textOf, listingOf, listingOfBytes, Run, feedOn, wroteOn, fedUp, brought, took, tookAll, allBytes, begun, ended, Ample}
 use Rattle.lines.specs.declared.Listing.{Listing}
 use Rattle.lines.proofs.PieceLaws.{pieces-none, leftover-none, pieces-append, leftover-append, leftover-is, pieces-from, each-piece}
 use Rattle.lines.proofs.StepLaws.{capped-same}

@@ -4,11 +4,10 @@
 use mathlib.Core.Path.{_≡_, refl, sym, ap, ap₂, _∙_}
 use mathlib.Core.Bool.{true, false}
 use mathlib.Core.List.{List, [], _∷_, _++_, append-assoc, append-nil}
-use Prim.Native.Nat.{ℕ, suc, _+_, _*_, _≤_, _<_}
+use Prim.Native.Nat.{ℕ, suc, _+_, _*_, _≤_}
 use native.Mathlib.Omega.{arith}
 use lib.ListN.{length, take, replicate, length-append, length-drop, length-replicate}
 use lib.Seq.{length-take-le}
-use borrow.Author.Tests.{le-leb}
 use Rattle.fields.specs.Numbers.{Bytes}
 use Rattle.fields.specs.Parts.{overlay}
 use Rattle.fields.proofs.Cases.{cases, true≢false}
@@ -18,7 +17,7 @@ use Rattle.gather.specs.Calls.{handedBy}
 use Rattle.gather.specs.declared.Gathered.{Gathered}
 use Rattle.gather.proofs.CallLaws.{Alike, call-alike}
 use Rattle.lines.specs.Lines.{linesOf}
-use Rattle.lines.specs.Listing.{afterOf, roomy, Stepped, listedOf, stepOf, Feeding, fedOf}
+use Rattle.lines.specs.Listing.{afterOf, roomy, Feeding, fedOf}
 use Rattle.lines.specs.declared.Listing.{Listing}
 use Rattle.lines.proofs.PieceLaws.{Each}
 use Rattle.lines.proofs.CallSound.{Sound, output-as-long, sound-on}
