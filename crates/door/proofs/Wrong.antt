@@ -20,9 +20,8 @@ use Rattle.transport.specs.Header as transport
 use Rattle.transport.specs.Load.{headBytes, transportOf}
 use Rattle.transport.specs.Tests.{pidOutside, fieldLong, pointerBeyond, transportChecks}
 use Rattle.carry.specs.Loads.{goneOf, loadsBy, loadsOf}
-use Rattle.carry.specs.Carry.{numbered, carryChecks, carryOf}
+use Rattle.carry.specs.Carry.{numbered, carryChecks, carryOf, transportsIn}
 use Rattle.gather.specs.State.{startOf, unfit, gatherChecks}
-use Rattle.demands.specs.Demand2.Carry.{transportsIn}
 use Rattle.demands.specs.Route.{writers}
 use Rattle.demands.proofs.Wrong.Changed.{buffer, space}
 use Rattle.demands.proofs.Wrong.Three.{one, good}
