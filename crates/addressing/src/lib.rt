@@ -1,4 +1,6 @@
 // Individual addressing: the data's check, the payload of type 0x21, and the walk for one transmitter.
+#![tactic(auto)]
+
 mod walks;
 
 ghost use Rattle.std.specs.Prelude.{◌≡◌, ◌||◌, ◌≤◌, eqb, length};
@@ -12,7 +14,7 @@ use refusals::Written;
 pub use walks::{Stepped, Walk, walk_from};
 
 // What reading a payload gives: how many bytes of data follow its first two.
-#[derive(Drop)]
+#[derive(Clone, Copy)]
 pub struct PayloadRead {
     pub refusal: u32,
     pub bytes: usize,
@@ -20,21 +22,21 @@ pub struct PayloadRead {
 
 // The first fault of addressing data in byte order: its number, and the byte, counted from the data's first, of the group or function
 // header where the check stopped. Both are 0 where the data is good.
-#[derive(Drop)]
+#[derive(Clone, Copy)]
 pub struct Fault {
     pub refusal: u32,
     pub place: usize,
 }
 
 // What a walk finds at a place: a function, whose body is data[start .. start + body], or the data's end.
-#[derive(Drop)]
+#[derive(Clone, Copy)]
 pub enum Step {
     Given { tag: u8, start: usize, body: usize },
     End,
 }
 
 // A walk's answer: what it found, and the place to walk on from.
-#[derive(Drop)]
+#[derive(Clone, Copy)]
 pub struct Walked {
     pub refusal: u32,
     pub next: usize,
@@ -42,7 +44,7 @@ pub struct Walked {
 }
 
 // Where a pass over the data is: its place, and the end and the owner of the loop that it is in or has just left.
-#[derive(Drop)]
+#[derive(Clone, Copy)]
 struct Cursor {
     at: usize,
     end: usize,
@@ -51,7 +53,7 @@ struct Cursor {
 
 // The header at a cursor: a group's, with how many bytes its loop has; a function's, with how many its body has; one with a fault; or none,
 // at the data's end.
-#[derive(Drop)]
+#[derive(Clone, Copy)]
 enum Header {
     Group { owner: u16, bytes: usize },
     Function { tag: u8, body: usize },
@@ -61,7 +63,7 @@ enum Header {
 
 // What a walk has seen of the functions for its transmitter: whether it reaches its place, whether one begins there or later, and the
 // answer for the first such.
-#[derive(Drop)]
+#[derive(Clone, Copy)]
 struct Seen {
     reached: bool,
     found: bool,
@@ -69,7 +71,7 @@ struct Seen {
 }
 
 // What a pass over all of the data gives: the data's fault, and the walk's answer.
-#[derive(Drop)]
+#[derive(Clone, Copy)]
 struct Passed {
     fault: Fault,
     walked: Walked,

@@ -8,7 +8,7 @@ ghost use Rattle.addressing.specs.Steps.{taken_of, fresh_walk, stepped_of};
 use super::{Walked, walk};
 
 // A walk: the addressing data, whose walk it is, and the place that it has come to.
-#[derive(Drop)]
+#[derive(Clone, Copy)]
 pub struct Walk<'a> {
     pub data: &'a [u8],
     pub transmitter: u16,
@@ -17,14 +17,14 @@ pub struct Walk<'a> {
 
 // What a step gives: what the walk found, and the walk at the next place; with a refusal, the walk where it was (01, "hands back the
 // old state").
-#[derive(Drop)]
+#[derive(Clone, Copy)]
 pub struct Stepped<'a> {
     pub answer: Walked,
     pub walk: Walk<'a>,
 }
 
 // A step on slice and numbers: what was found, and the place that the walk is then at.
-#[derive(Drop)]
+#[derive(Clone, Copy)]
 struct Taken {
     answer: Walked,
     at: usize,

@@ -1,4 +1,6 @@
 // Carriage: the batch writer. A batch of T2-MI packets goes into transport packets of one PID, by 01's four cases.
+#![tactic(auto)]
+
 ghost use Rattle.std.specs.Prelude.{◌≡◌, ◌&&◌, [], ◌∷◌, ◌+◌, ◌-◌, ◌*◌, ◌%◌, ◌≤◌, ◌<◌, min, leb, ltb, length, drop};
 ghost use Rattle.fields.specs.Formats.{pack};
 ghost use Rattle.fields.specs.Parts.{part, overlay};
@@ -11,7 +13,7 @@ ghost use Rattle.carry.specs.OnBytes.{left_of, plan_of, load_for, loads_from};
 
 // What carrying a batch gives: how many transport packets were written, and the count to go on with.
 #[repr(C)]
-#[derive(Drop)]
+#[derive(Clone, Copy)]
 pub struct Carried {
     pub refusal: u32,
     pub packets: u32,
@@ -20,7 +22,7 @@ pub struct Carried {
 
 // The next transport packet: whether it has a start, how many bytes of the batch it carries, and how many are then left of
 // the packet under way.
-#[derive(Drop)]
+#[derive(Clone, Copy)]
 struct Plan {
     starts: bool,
     bytes: usize,
@@ -28,7 +30,7 @@ struct Plan {
 }
 
 // What was written: so many transport packets, and the count to go on with.
-#[derive(Drop)]
+#[derive(Clone, Copy)]
 struct Done {
     packets: usize,
     count: u8,

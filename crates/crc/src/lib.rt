@@ -1,5 +1,7 @@
 // The CRC of 01 ("CRC:") and of annex A, over bytes that the caller lends. The definition, specs/Crc.antt, feeds the
 // register bit by bit; the code looks digits of four bits up in tables, those of eight bytes at a time.
+#![tactic(auto)]
+
 ghost use Rattle.std.specs.Prelude.{◌≡◌, ◌+◌, ◌*◌, ◌%◌, ◌^◌, ◌≤◌, ◌<◌, length};
 ghost use Rattle.fields.specs.Numbers.{number};
 ghost use Rattle.fields.specs.Parts.{part};

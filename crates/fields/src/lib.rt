@@ -1,4 +1,6 @@
 // Numbers in bytes and parts of slices: the few functions that more than one crate needs. Each answers for any arguments.
+#![tactic(auto)]
+
 ghost use Rattle.std.specs.Prelude.{◌≡◌, ◌+◌, leb, get_or};
 ghost use Rattle.fields.specs.Signed.{outside};
 ghost use Rattle.fields.specs.Parts.{number_at, stored_at, copied_to, filled_at};

@@ -1,4 +1,6 @@
 // The functions of individual addressing (000, clause 6.1): their tags, and their bodies read and written.
+#![tactic(auto)]
+
 ghost use Rattle.std.specs.Prelude.{◌≡◌, false, ◌^◌, ◌<◌, length};
 ghost use Rattle.fields.specs.Formats.{pack};
 ghost use Rattle.fields.specs.Parts.{overlay};
@@ -12,7 +14,7 @@ ghost use Rattle.functions.specs.Write.{unfit, reserved, write_checks, Writable,
 use refusals::Written;
 
 // A function by its kind. Private, Enable and Passed carry bytes, which stand beside it; Passed holds its tag.
-#[derive(Drop)]
+#[derive(Clone, Copy)]
 pub enum Function {
     TimeOffset(i16),
     FrequencyOffset(i32),
@@ -25,7 +27,7 @@ pub enum Function {
 }
 
 // What reading a body gives: with a refusal, a time offset of 0.
-#[derive(Drop)]
+#[derive(Clone, Copy)]
 pub struct FunctionRead {
     pub refusal: u32,
     pub function: Function,

@@ -1,5 +1,7 @@
 // Carriage: the gathering reader. Transport packets of one PID go in one by one, and the T2-MI packets that they finish come
 // out. The rules are those of specs/Rules.antt, stage by stage.
+#![tactic(auto)]
+
 ghost use Rattle.std.specs.Prelude.{◌≡◌, true, cond, eqb, ◌++◌, ◌+◌, ◌-◌, ◌≤◌, ◌<◌, length, get_or, take, drop};
 ghost use Rattle.fields.specs.Parts.{part};
 ghost use Rattle.refusals.specs.Checks.{first};
@@ -15,7 +17,7 @@ use packet::Judged;
 use transport::Looked;
 
 // The last count taken, or none.
-#[derive(Drop)]
+#[derive(Clone, Copy)]
 pub enum Last {
     Nothing,
     Count(u8),
@@ -23,7 +25,7 @@ pub enum Last {
 
 // A reader's state between two calls: its PID, the last count, whether it is in step, and how many bytes wait in the
 // gathering buffer.
-#[derive(Drop)]
+#[derive(Clone, Copy)]
 pub struct Reader {
     pub pid: u16,
     pub last: Last,
@@ -32,14 +34,14 @@ pub struct Reader {
 }
 
 // What a start gives: with a refusal, a reader of zeros.
-#[derive(Drop)]
+#[derive(Clone, Copy)]
 pub struct Started {
     pub refusal: u32,
     pub reader: Reader,
 }
 
 // The marks of a call.
-#[derive(Drop)]
+#[derive(Clone, Copy)]
 pub struct Marks {
     pub loss: bool,
     pub misfit: bool,
@@ -47,7 +49,7 @@ pub struct Marks {
 }
 
 // What a call gives: the next state, the bytes and packets written, and the marks; with a refusal the old state and zeros.
-#[derive(Drop)]
+#[derive(Clone, Copy)]
 pub struct Gathered {
     pub refusal: u32,
     pub reader: Reader,
@@ -57,7 +59,7 @@ pub struct Gathered {
 }
 
 // The numbers of what a call has in hand between two stages.
-#[derive(Drop)]
+#[derive(Clone, Copy)]
 struct Numbers {
     in_step: bool,
     waiting: usize,

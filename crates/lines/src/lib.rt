@@ -11,7 +11,7 @@ use gather::{Gathered, Reader};
 use packet::{Header, Packet};
 
 // A listing under way: the reader, the packets that it handed out so far, and its loss marks.
-#[derive(Drop)]
+#[derive(Clone, Copy)]
 pub struct Listing {
     pub reader: Reader,
     pub packets: u64,
@@ -20,7 +20,7 @@ pub struct Listing {
 
 // What a step gives: the next state, and how much of the lines is filled. Where they may have too little room it is full, and
 // all is as it was.
-#[derive(Drop)]
+#[derive(Clone, Copy)]
 pub struct Step {
     pub full: bool,
     pub listing: Listing,
@@ -29,7 +29,7 @@ pub struct Step {
 
 // What feeding a block gives: the next state, how many bytes of the block are taken, and how much of the lines is filled.
 // Where it is full it stopped before a piece whose lines may have too little room.
-#[derive(Drop)]
+#[derive(Clone, Copy)]
 pub struct Fed {
     pub full: bool,
     pub listing: Listing,

@@ -8,7 +8,7 @@ use libc::{STDERR_FILENO, STDIN_FILENO, STDOUT_FILENO};
 use lines::Listing;
 
 // Where a listing stands, and whether it is whole: the input came to its end, and all lines are written out.
-#[derive(Drop)]
+#[derive(Clone, Copy)]
 struct Listed {
     listing: Listing,
     whole: bool,
@@ -40,7 +40,7 @@ fn is_end(got: isize) -> bool {
 
 // What stands in the block after a read: how many bytes, whether the listing goes on, and if not whether the input came to
 // its end.
-#[derive(Drop)]
+#[derive(Clone, Copy)]
 struct Came {
     have: usize,
     goes: bool,

@@ -1,4 +1,6 @@
 // The Mega-frame Initialization Packet (000, clause 6) and site timing (annex B).
+#![tactic(auto)]
+
 mod reading;
 mod timing;
 mod writing;
@@ -8,11 +10,11 @@ pub use timing::{emission, extra_delay};
 pub use writing::write;
 
 // A number of 100 ns steps. The timestamps of T2-MI count in other units: the two never meet in one sum.
-#[derive(Drop)]
+#[derive(Clone, Copy)]
 pub struct Steps(pub u32);
 
 // The fields of a MIP, in the order of table 1b.
-#[derive(Drop)]
+#[derive(Clone, Copy)]
 pub struct Mip {
     pub count: u8,
     pub pointer: u16,
@@ -24,7 +26,7 @@ pub struct Mip {
 }
 
 // What reading a MIP gives: its fields, and how many bytes of addressing data it has, from byte 21 on.
-#[derive(Drop)]
+#[derive(Clone, Copy)]
 pub struct MipRead {
     pub refusal: u32,
     pub addressing: usize,
@@ -32,7 +34,7 @@ pub struct MipRead {
 }
 
 // A time of a site, or the refusal of its sum.
-#[derive(Drop)]
+#[derive(Clone, Copy)]
 pub struct Time {
     pub refusal: u32,
     pub steps: Steps,

@@ -6,7 +6,7 @@ ghost use Rattle.mip.specs.Read.{header_wrong, section_wrong, not_all_ones, read
 use super::{Mip, MipRead, SECOND, Steps};
 
 // What a packet says before its addressing data, but for the header's fixed bits.
-#[derive(Drop)]
+#[derive(Clone, Copy)]
 struct Lead {
     sync: u8,
     id: u8,

@@ -1,4 +1,6 @@
 // T2-MI packets (002, clause 5.1): their header and payload, read and written, and the cut of packets back to back.
+#![tactic(auto)]
+
 ghost use Rattle.std.specs.Prelude.{◌≡◌, drop};
 ghost use Rattle.fields.specs.Formats.{pack, too_wide};
 ghost use Rattle.refusals.specs.Checks.{first};
@@ -10,7 +12,7 @@ ghost use Rattle.packet.specs.Cut.{judge_of, batch_fault};
 use refusals::Written;
 
 // The fields of a header, in its order: packet_type, packet_count, superframe_idx, t2mi_stream_id, payload_len.
-#[derive(Drop)]
+#[derive(Clone, Copy)]
 pub struct Header {
     pub kind: u8,
     pub count: u8,
@@ -20,14 +22,14 @@ pub struct Header {
 }
 
 // What reading a packet gives: with a refusal, a header of zeros.
-#[derive(Drop)]
+#[derive(Clone, Copy)]
 pub struct Packet {
     pub refusal: u32,
     pub header: Header,
 }
 
 // What bytes begin with: fewer than their packet needs, a whole packet whose CRC is wrong, or a good one so long.
-#[derive(Drop)]
+#[derive(Clone, Copy)]
 pub enum Judged {
     Short,
     Bad,

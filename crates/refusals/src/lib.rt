@@ -1,6 +1,8 @@
 // The refusals of document 01, by their numbers, and the answer of an operation that writes into lent memory.
 
 // 01, "Refusal numbers". A refusal returns its number and zeros, hands back the old state and writes nothing.
+#![tactic(auto)]
+
 pub const TRANSPORT_NOT_188: u32 = 1;
 
 pub const GATHERING_BUFFER_SHORT: u32 = 2;
@@ -79,7 +81,7 @@ pub const TOO_WIDE_OR_UNFIT_STATE: u32 = 38;
 
 // How many bytes of the lent output are the result; 0 with a refusal.
 #[repr(C)]
-#[derive(Drop)]
+#[derive(Clone, Copy)]
 pub struct Written {
     pub refusal: u32,
     pub bytes: u32,

@@ -27,7 +27,7 @@ use stamp::{Kind, Stamp, Subseconds};
 
 // What reading a T2-MI packet gives, with the header's fields beside the refusal.
 #[repr(C)]
-#[derive(Drop)]
+#[derive(Clone, Copy)]
 pub struct SfnPacket {
     pub refusal: u32,
     pub bits: u32,
@@ -97,7 +97,7 @@ pub extern "C" fn sfn_packet_write(
 
 // What reading a timestamp payload gives.
 #[repr(C)]
-#[derive(Drop)]
+#[derive(Clone, Copy)]
 pub struct SfnStamp {
     pub seconds: u64,
     pub refusal: u32,
@@ -173,7 +173,7 @@ pub extern "C" fn sfn_carry(pid: u16, first_count: u8, batch: &[u8], out: &mut [
 
 // What reading a function's body gives. kind is 0 to 6 as the tag, and 7 for a function that is passed through.
 #[repr(C)]
-#[derive(Drop)]
+#[derive(Clone, Copy)]
 pub struct SfnFunction {
     pub refusal: u32,
     pub value: i32,
@@ -254,7 +254,7 @@ pub extern "C" fn sfn_function_read(tag: u8, body: &[u8]) -> SfnFunction
 }
 
 // What the arguments of sfn_function_write make: a function, or none, for which 38 is answered.
-#[derive(Drop)]
+#[derive(Clone, Copy)]
 enum Made {
     Unfit,
     Fit(Function),

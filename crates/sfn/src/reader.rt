@@ -8,7 +8,7 @@ use gather::{Gathered, Last, Reader};
 
 // A reader's state. last is the last count taken, or 255 for none; in_step is 0 or 1.
 #[repr(C)]
-#[derive(Drop)]
+#[derive(Clone, Copy)]
 pub struct SfnReader {
     pub pid: u16,
     pub last: u8,
@@ -17,7 +17,7 @@ pub struct SfnReader {
 }
 
 #[repr(C)]
-#[derive(Drop)]
+#[derive(Clone, Copy)]
 pub struct SfnStarted {
     pub refusal: u32,
     pub reader: SfnReader,
@@ -25,7 +25,7 @@ pub struct SfnStarted {
 
 // What gathering one transport packet gives. A mark is 1 where it is set.
 #[repr(C)]
-#[derive(Drop)]
+#[derive(Clone, Copy)]
 pub struct SfnGathered {
     pub refusal: u32,
     pub reader: SfnReader,

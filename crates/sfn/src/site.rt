@@ -14,7 +14,7 @@ use refusals::Written;
 
 // What reading an addressing payload gives. Its data begins at byte 2.
 #[repr(C)]
-#[derive(Drop)]
+#[derive(Clone, Copy)]
 pub struct SfnAddressing {
     pub refusal: u32,
     pub bytes: u32,
@@ -22,7 +22,7 @@ pub struct SfnAddressing {
 
 // A step of a walk. given is 1 with a function, and 0 at the data's end.
 #[repr(C)]
-#[derive(Drop)]
+#[derive(Clone, Copy)]
 pub struct SfnWalked {
     pub refusal: u32,
     pub start: u32,
@@ -34,7 +34,7 @@ pub struct SfnWalked {
 
 // What reading a MIP gives. Its addressing data begins at byte 21.
 #[repr(C)]
-#[derive(Drop)]
+#[derive(Clone, Copy)]
 pub struct SfnMip {
     pub refusal: u32,
     pub stamp: u32,
@@ -49,7 +49,7 @@ pub struct SfnMip {
 
 // A time in steps of 100 ns.
 #[repr(C)]
-#[derive(Drop)]
+#[derive(Clone, Copy)]
 pub struct SfnTime {
     pub refusal: u32,
     pub steps: u32,

@@ -1,4 +1,6 @@
 // DVB-T2 timestamp payloads (002, clause 5.2.7): read and written, the units of their subseconds, and the kinds of stamp.
+#![tactic(auto)]
+
 ghost use Rattle.std.specs.Prelude.{◌≡◌, ◌≤◌, length};
 ghost use Rattle.fields.specs.Formats.{too_wide};
 ghost use Rattle.refusals.specs.Checks.{first};
@@ -9,11 +11,11 @@ ghost use Rattle.stamp.specs.Write.{fields_of, write_checks, write_of};
 use refusals::Written;
 
 // Subsecond units, whose length goes by the bandwidth code. A type of its own: no function adds it to another clock's time.
-#[derive(Drop)]
+#[derive(Clone, Copy)]
 pub struct Subseconds(pub u32);
 
 // The fields of a stamp, in their order: bw, seconds_since_2000, subseconds, utco.
-#[derive(Drop)]
+#[derive(Clone, Copy)]
 pub struct Stamp {
     pub bw: u8,
     pub seconds: u64,
@@ -22,14 +24,14 @@ pub struct Stamp {
 }
 
 // What reading a payload gives: with a refusal, a stamp of zeros.
-#[derive(Drop)]
+#[derive(Clone, Copy)]
 pub struct StampRead {
     pub refusal: u32,
     pub stamp: Stamp,
 }
 
 // What a stamp says of the time of emission: nothing, the place within any second, or the second too.
-#[derive(Drop)]
+#[derive(Clone, Copy)]
 pub enum Kind {
     Null,
     Relative,

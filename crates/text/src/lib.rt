@@ -1,5 +1,7 @@
 // Text in ASCII, laid behind other text in a lent buffer: decimal numbers, words and lines. Each function gives the place
 // behind what it laid; where a text has no room nothing of it is laid.
+#![tactic(auto)]
+
 ghost use Rattle.std.specs.Prelude.{◌≡◌, ◌∷◌, ◌+◌, ◌≤◌, nat_abs, length};
 ghost use Rattle.fields.specs.Parts.{overlay};
 ghost use Rattle.text.specs.Digits.{digits, minus, signed};

@@ -1,4 +1,6 @@
 // Transport packets, as far as the writer and the reader both know them.
+#![tactic(auto)]
+
 ghost use Rattle.std.specs.Prelude.{◌≡◌, cond, List, ℕ, ◌+◌, ◌≤◌, eqb, length, get_or};
 ghost use Rattle.refusals.specs.Checks.{first};
 ghost use Rattle.transport.specs.Header.{head_of};
@@ -7,7 +9,7 @@ ghost use Rattle.transport.specs.Look.{stands_in, nothing_in, look_of};
 
 // What is found in a transport packet: its count, whether a T2-MI packet begins in it, where its payload begins, and the
 // pointer, 0 where none begins. With a refusal all else is 0. What the adaptation field says would stand behind these.
-#[derive(Drop)]
+#[derive(Clone, Copy)]
 pub struct Looked {
     pub refusal: u32,
     pub count: u8,

@@ -1,0 +1,8 @@
+-- `carry::header_number` meets its contract: the code multiplies by the weights that the format gives its fields.
+use native.Mathlib.Omega.{arith}
+use Rattle.fields.specs.Formats.{pack}
+use Rattle.carry.proofs.header_number.Goals as goal
+
+pub returns : goal.returns
+unfolding pack
+returns c = omega arith

@@ -1,0 +1,25 @@
+-- `carry::put_loads` meets its contract: what is laid, and what is still to be laid, is all of it.
+use borrow.Author.Rules.{rules}
+use lib.ListN.{length, drop, length-drop}
+use mathlib.Core.Path.{◌≡◌, refl, sym, ap, ◌∙◌}
+use mathlib.Core.List.{List, [], ◌∷◌, ◌++◌}
+use Prim.Native.Nat.{ℕ, ◌+◌, ◌-◌, ◌*◌, ◌%◌, ◌≤◌, ◌<◌}
+use native.Mathlib.Nat.{zero-add}
+use native.Mathlib.Omega.{arith}
+use Rattle.fields.specs.Parts.{overlay}
+use Rattle.fields.proofs.PartLaws.{overlay-none, overlay-next}
+use Rattle.packet.specs.Cut.{joined}
+use Rattle.transport.specs.Load.{Load, transport_of}
+use Rattle.transport.proofs.LoadLaws.{transport-length}
+use Rattle.carry.proofs.ByteLaws.{load_one, loads-end, load-sound}
+use Rattle.carry.specs.Building.{Laid}
+use Rattle.carry.specs.Carry.{numbered}
+use Rattle.carry.specs.OnBytes.{plan_of, load_for, loads_from}
+use Rattle.carry.specs.declared.Plan.{Plan}
+use Rattle.carry.proofs.put_loads.Given as goal
+
+abbrev pub invariant-loop-at : goal.invariant-loop-at
+invariant-loop-at l = At l.pid l.first_count l.batch l.initial.out l.out l.at l.r l.n l.count
+
+abbrev pub decreases-loop-at : goal.decreases-loop-at
+decreases-loop-at l = length l.batch - l.at

@@ -1,0 +1,109 @@
+-- `functions::function_of` meets its contract: in each arm the tag says how long the body is, so that its number fits; the
+-- code divides by the weights that the formats give their fields.
+use lib.ListN.{length, get_or-eq_default}
+use mathlib.Core.Path.{◌≡◌, sym, ap, ◌∙◌}
+use mathlib.Core.List.{List}
+use Prim.Native.Nat.{ℕ, suc, zero-le, ◌*◌, ◌/◌, ◌%◌, ◌^◌, ◌≤◌, ◌<◌}
+use native.Mathlib.Nat.{div-one}
+use native.Mathlib.Omega.{arith}
+use mir.Syntax.{w16, w32}
+use mir.ValLaws.{to_z-of_z}
+use Rattle.fields.specs.Formats.{unpack}
+use Rattle.fields.specs.Numbers.{number}
+use Rattle.fields.specs.Signed.{signed}
+use Rattle.functions.proofs.BodyLaws.{number_small, number-whole}
+use Rattle.functions.proofs.KindLaws.{sized}
+use Rattle.functions.specs.Tags.{exactly, size_of, cell, bandwidth}
+use Rattle.functions.specs.Function.{field, is_set, known, function_of}
+use Rattle.functions.specs.declared.Function.TheVariants.{TimeOffset, FrequencyOffset, Power, Cell, Bandwidth, Passed}
+use Rattle.functions.proofs.function_of.Goals as goal
+use Rattle.functions.proofs.function_of.Goals.{After-number_at-v}
+
+-- the tag says how long the body is
+long : (c : After-number_at-v) (k : ℕ) → size_of c.args.tag ≡ exactly k → length c.args.body.now ≡ k
+long c k e = sized c.args.tag k _ e c.requires
+
+-- the number that the code works with is the body's, and below two to its bits
+value : (c : After-number_at-v) (k : ℕ) → size_of c.args.tag ≡ exactly k → k ≤ 8 → c.number_at-v.result ≡ number c.args.body.now
+value c k e h = c.number_at-v.ensures ∙ number-whole c.args.body.now (rw (long c k e) h)
+
+below : (c : After-number_at-v) (k : ℕ) → size_of c.args.tag ≡ exactly k → k ≤ 8 → c.number_at-v.result < 2 ^ (8 * k)
+below c k e h =
+    rw (value c k e h) (number_small k c.args.body.now (long c k e) (λ i. (c.shared_slice_known-1.given i).fits))
+
+past : (k t : ℕ) → k ≤ t → (t ≡ k → ⊥) → suc k ≤ t
+past k t h e = omega arith
+
+cell-read : (s : List ℕ) → Cell (number s / 256 % 65536) (is_set (number s / 128 % 2)) (number s % 128) ≡ Cell (field cell 0 s) (is_set (field cell 1 s)) (field cell 2 s)
+unfolding unpack
+cell-read s = ap (λ (n : ℕ). Cell (number s / 256 % 65536) (is_set (number s / 128 % 2)) (n % 128)) (sym (div-one (number s)))
+
+bandwidth-read : (s : List ℕ) → Bandwidth (number s / 2 % 128) (is_set (number s % 2)) ≡ Bandwidth (field bandwidth 0 s) (is_set (field bandwidth 1 s))
+unfolding unpack
+bandwidth-read s = ap (λ (n : ℕ). Bandwidth (number s / 2 % 128) (is_set (n % 2))) (sym (div-one (number s)))
+
+pub overflow_cast-v : goal.overflow_cast-v
+overflow_cast-v c = record { fits = below (goal.at.overflow_cast-v c).After-number_at-v 2 (ap size_of c.in-0.is) (omega arith) }
+
+pub overflow_cast-v-in-1 : goal.overflow_cast-v-in-1
+overflow_cast-v-in-1 c = omega (arith, below (goal.at.overflow_cast-v-in-1 c).After-number_at-v 3 (ap size_of c.in-1.is) (omega arith))
+
+pub signed_24-requires : goal.signed_24-requires
+signed_24-requires c = below (goal.at.signed_24-requires c).After-number_at-v 3 (ap size_of c.in-1.is) (omega arith)
+
+pub overflow_cast-result : goal.overflow_cast-result
+overflow_cast-result c = record { fits = below (goal.at.overflow_cast-result c).After-number_at-v 2 (ap size_of c.in-2.is) (omega arith) }
+
+pub returns-in-0 : goal.returns-in-0
+unfolding function_of
+returns-in-0 c =
+    ap TimeOffset
+    (to_z-of_z w16 c.signed_16.result (record { sfits = c.signed_16.type_inv })
+    ∙ c.signed_16.ensures
+    ∙ ap (signed 16) (value (goal.at.returns-in-0 c).After-number_at-v 2 (ap size_of c.in-0.is) (omega arith)))
+    ∙ sym (ap (λ (t : ℕ). function_of t c.args.body.now) c.in-0.is)
+
+pub returns-in-1 : goal.returns-in-1
+unfolding function_of
+returns-in-1 c =
+    ap FrequencyOffset
+    (to_z-of_z w32 c.signed_24.result (record { sfits = c.signed_24.type_inv })
+    ∙ c.signed_24.ensures
+    ∙ ap (signed 24) (value (goal.at.returns-in-1 c).After-number_at-v 3 (ap size_of c.in-1.is) (omega arith)))
+    ∙ sym (ap (λ (t : ℕ). function_of t c.args.body.now) c.in-1.is)
+
+pub returns-in-2 : goal.returns-in-2
+unfolding function_of
+returns-in-2 c =
+    ap Power (value (goal.at.returns-in-2 c).After-number_at-v 2 (ap size_of c.in-2.is) (omega arith))
+    ∙ sym (ap (λ (t : ℕ). function_of t c.args.body.now) c.in-2.is)
+
+pub returns-in-3 : goal.returns-in-3
+unfolding function_of
+returns-in-3 c =
+    sym (ap (λ (t : ℕ). function_of t c.args.body.now) c.in-3.is)
+
+pub returns-in-4 : goal.returns-in-4
+unfolding function_of
+returns-in-4 c =
+    rw (value (goal.at.returns-in-4 c).After-number_at-v 3 (ap size_of c.in-4.is) (omega arith))
+    (cell-read c.args.body.now ∙ sym (ap (λ (t : ℕ). function_of t c.args.body.now) c.in-4.is))
+
+pub returns-in-5 : goal.returns-in-5
+unfolding function_of
+returns-in-5 c =
+    sym (ap (λ (t : ℕ). function_of t c.args.body.now) c.in-5.is)
+
+pub returns-in-6 : goal.returns-in-6
+unfolding function_of
+returns-in-6 c =
+    rw (value (goal.at.returns-in-6 c).After-number_at-v 1 (ap size_of c.in-6.is) (omega arith))
+    (bandwidth-read c.args.body.now ∙ sym (ap (λ (t : ℕ). function_of t c.args.body.now) c.in-6.is))
+
+pub returns-in_default : goal.returns-in_default
+unfolding function_of
+returns-in_default c =
+    let t = c.args.tag in
+    let r = c.in_default.in_default-own.rest in
+    let h : 7 ≤ t = past 6 t (past 5 t (past 4 t (past 3 t (past 2 t (past 1 t (past 0 t zero-le r.0.0.0.0.0.0.1) r.0.0.0.0.0.1) r.0.0.0.0.1) r.0.0.0.1) r.0.0.1) r.0.1) r.1 in
+    sym (get_or-eq_default (known c.args.body.now) (Passed t) h)
