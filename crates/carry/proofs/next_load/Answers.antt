@@ -43,7 +43,7 @@ pub returns-then-has_start : goal.returns-then-has_start
 returns-then-has_start c =
     let a = c.args in
     let b = begun (goal.at.returns-then-has_start c).Then-has_start in
-    start_is a.batch.now a.at a.r _ _ b.0 b.1 c.least-bytes.ensures c.left_After.ensures
+    start_is a.batch.now a.at a.r _ _ b.0 b.1 c.least-bytes.ensures c.left_after-left.ensures
 
 pub returns : goal.returns
 returns c =

@@ -6,10 +6,10 @@ use Prim.Native.Nat.{◌+◌, ◌-◌, ◌≤◌}
 use native.Mathlib.Omega.{arith}
 use Rattle.gather.proofs.FollowLaws.{followed-short, followed-bad, lies, followed-good}
 use Rattle.gather.proofs.follow.Goals as goal
-use Rattle.gather.proofs.follow.Goals.{In-Good-2}
+use Rattle.gather.proofs.follow.Goals.{In-Good}
 
 -- a good packet lies in t
-good : (u : In-Good-2)
+good : (u : In-Good)
     → (10 ≤ u.in-Good.size) × (u.loop-size.a + u.in-Good.size ≤ length u.args.t.now)
 good u =
     let l = u.loop-size in
@@ -28,20 +28,20 @@ returns-in-Bad c =
     followed-bad a.t.now l.a _ c.judge.ensures l.held l.output c.in-Bad.is _ c.crc_fails.ensures ∙ l.invariant.5
 
 pub hands_out-held-requires : goal.hands_out-held-requires
-hands_out-held-requires c = omega (arith, good (goal.at.hands_out-held-requires c).In-Good-2)
+hands_out-held-requires c = omega (arith, good (goal.at.hands_out-held-requires c).In-Good)
 
 pub overflow_add-a : goal.overflow_add-a
-overflow_add-a c = omega (arith, good (goal.at.overflow_add-a c).In-Good-2)
+overflow_add-a c = omega (arith, good (goal.at.overflow_add-a c).In-Good)
 
 pub loop-size-smaller : goal.loop-size-smaller
-loop-size-smaller c = omega (arith, good (goal.at.loop-size-smaller c).In-Good-2)
+loop-size-smaller c = omega (arith, good (goal.at.loop-size-smaller c).In-Good)
 
 pub loop-size-preserved : goal.loop-size-preserved
 loop-size-preserved c =
     let l = c.loop-size in
     let a = c.args in
     let r = c.hands_out-held.ensures in
-    let g = good (goal.at.loop-size-preserved c).In-Good-2 in (
+    let g = good (goal.at.loop-size-preserved c).In-Good in (
       omega (arith, g),
       rw r (omega (arith, g, c.copy.auto)),
       omega (arith, c.copy.auto),

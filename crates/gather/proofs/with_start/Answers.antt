@@ -12,13 +12,13 @@ start u = (goal.at.After-unfinished u).Start
 small : (u : After-unfinished) → (u.unfinished.result.packets ≤ 1) × (u.unfinished.result.bytes ≤ 8202)
 small u =
     let s = start u in
-    begun-small s.args.e s.args.gathering.now s.args.output.now s.args.t.now s.args.at s.args.n s.pre.5 s.pre.4 _ _ _ u.lead-front.ensures _ u.unfinished.ensures
+    begun-small s.args.e s.args.gathering.now s.args.output.now s.args.t.now s.args.at s.args.n s.requires.5 s.requires.4 _ _ _ u.lead-front.ensures _ u.unfinished.ensures
     (λ i. (u.slice_known-1.given i).fits) (λ i. (u.shared_slice_known-1.given i).fits)
 
 few : (v : After-follow-held) → v.follow-held.result.waiting ≤ 188 - ((start (goal.at.After-follow-held v).After-unfinished).args.at + (start (goal.at.After-follow-held v).After-unfinished).args.n)
 few v =
     let s = start (goal.at.After-follow-held v).After-unfinished in
-    left-few s.args.e s.args.gathering.now s.args.output.now s.args.t.now s.args.at s.args.n s.pre.5 s.pre.4 _ _ _ v.lead-front.ensures _ v.unfinished.ensures _ _ v.follow-held.ensures
+    left-few s.args.e s.args.gathering.now s.args.output.now s.args.t.now s.args.at s.args.n s.requires.5 s.requires.4 _ _ _ v.lead-front.ensures _ v.unfinished.ensures _ _ v.follow-held.ensures
 
 pub follow-held-requires : goal.follow-held-requires
 follow-held-requires c =
@@ -30,4 +30,4 @@ overflow_sub-left c = omega (arith, few (goal.at.overflow_sub-left c).After-foll
 pub returns : goal.returns
 returns c =
     let s = start (goal.at.returns c).After-unfinished in
-    with-start s.args.e s.args.gathering.now s.args.output.now s.args.t.now s.args.at s.args.n s.pre.5 s.pre.4 _ _ _ c.lead-front.ensures _ c.unfinished.ensures _ _ c.follow-held.ensures _ (omega (arith, c.lead-front.auto, s.pre.1)) c.copy.ensures
+    with-start s.args.e s.args.gathering.now s.args.output.now s.args.t.now s.args.at s.args.n s.requires.5 s.requires.4 _ _ _ c.lead-front.ensures _ c.unfinished.ensures _ _ c.follow-held.ensures _ (omega (arith, c.lead-front.auto, s.requires.1)) c.copy.ensures
