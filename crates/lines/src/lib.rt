@@ -1,5 +1,7 @@
 // The text of a listing (01, "Listing program"): its lines, and one step of a listing, which takes a transport packet and adds
 // the lines of the T2-MI packets that it finishes. Where a line has no room nothing of it is laid.
+#![tactic(auto)]
+
 ghost use Rattle.std.specs.Prelude.{◌≡◌, ◌+◌, ◌*◌, ◌≤◌, length};
 ghost use Rattle.packet.specs.Cut.{cut};
 ghost use Rattle.text.specs.Laid.{word, laid, appended};
