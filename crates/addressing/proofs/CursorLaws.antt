@@ -17,7 +17,7 @@ use Rattle.refusals.specs.Answers.{answer}
 use Rattle.addressing.proofs.EntryLaws.{entries_none, entries-stop, entries-on}
 use Rattle.addressing.proofs.DataLaws.{group-whole, group-fits, function-whole, function-fits}
 use Rattle.addressing.specs.Cursor.{group_header, function_header, header_at, unseen, seen_after, answer_of, pass_checks, pass_of}
-use Rattle.addressing.specs.Data.{Entries, no_fault, none, on_top, entries_in, owner_of, loop_length, group_size, group_checks, Group, group_at, group, body_length, function_size, function_checks, Placed, end_of, function_at, function, groups_in, loop_in, functions_of, fault_in, fault_of}
+use Rattle.addressing.specs.Data.{Entries, no_fault, none, on_top, entries_in, owner_of, loop_length, group_size, group_checks, group_at, group, body_length, function_size, function_checks, Placed, end_of, function_at, function, groups_in, loop_in, functions_of, fault_in, fault_of}
 use Rattle.addressing.specs.Walk.{hears, heard_of, functions_for, ends_at, reached, given, step_in, refused, walk_checks, walk_of}
 use Rattle.addressing.specs.declared.Cursor.{Cursor}
 use Rattle.addressing.specs.declared.Fault.{Fault}

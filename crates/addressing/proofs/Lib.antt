@@ -5,7 +5,6 @@ pub mod PayloadLaws
 pub mod RoundTrips
 pub mod WalkLaws
 pub mod StepLaws
-pub mod Owned
 pub mod CursorLaws
 pub mod GroupLaws
 pub mod RowLaws

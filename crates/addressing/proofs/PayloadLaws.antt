@@ -9,7 +9,6 @@ use lib.ListN.{length, get_or}
 use borrow.Author.Tests.{ltb-false, eqb-true, not-false}
 use Rattle.fields.specs.Parts.{overlay}
 use Rattle.refusals.specs.Checks.{first}
-use Rattle.refusals.specs.Answers.{answer}
 use Rattle.refusals.proofs.AnswerLaws.{answer-accepted, answer-refused, answer-shows, written-accepted, written-refused, written-shows}
 use Rattle.refusals.proofs.CheckLaws.{none-holds, not_found}
 use Rattle.addressing.proofs.DataLaws.{neither}

@@ -30,7 +30,7 @@ struct Taken {
     at: usize,
 }
 
-// All of a step that is not the struct, so that the borrow checker covers it: with a refusal the place stays.
+// All of a step that is not the struct: with a refusal the place stays.
 fn take_step(data: &[u8], transmitter: u16, at: usize) -> Taken
     ensures { result ≡ taken_of «data».now transmitter at }
 {
@@ -70,8 +70,8 @@ impl<'a> Walk<'a> {
     }
 }
 
-// A step from a place, for a caller that keeps slice and place itself: every caller of other crates. Its contract names no struct, so
-// such a caller's proof is covered.
+// A step from a place, for a caller that keeps slice and place itself: every caller of other crates. Its contract names no struct of a
+// walk.
 pub fn walk_from(data: &[u8], transmitter: u16, place: usize) -> Walked
     ensures { result ≡ walk_of house «data».now transmitter place }
 {

@@ -2,7 +2,7 @@
 use lib.ListN.{length}
 use mathlib.Core.Bool.{Bool}
 use mathlib.Core.Path.{◌≡◌, sym, ap, ap₂, ◌∙◌, subst}
-use Prim.Native.Nat.{◌+◌, ◌-◌}
+use Prim.Native.Nat.{◌+◌}
 use native.Mathlib.Omega.{arith}
 use Rattle.addressing.proofs.CursorLaws.{Left, left_of, Tells, tells, told, told-nothing, told-bad, told-function, told-all}
 use Rattle.addressing.specs.Cursor.{seen_after}
@@ -26,20 +26,18 @@ found c h e =
 abbrev GroupFound : In-Group → Type 0
 GroupFound c =
     let a = c.args in
-    let g = c.owner-1.given in
-    Tells a.own a.transmitter a.«data».now c.loop-owner.c (Group g.0.0 g.0.1.0)
+    Tells a.own a.transmitter a.«data».now c.loop-owner.c (Group c.in-Group.owner c.in-Group.bytes)
 
 group-found : (c : In-Group) → GroupFound c
-group-found c = let g = c.owner-1.given in found (goal.at.In-Group c).After-header_at (Group g.0.0 g.0.1.0) g.1
+group-found c = found (goal.at.In-Group c).After-header_at (Group c.in-Group.owner c.in-Group.bytes) c.in-Group.is
 
 abbrev FunctionFound : In-Function → Type 0
 FunctionFound c =
     let a = c.args in
-    let g = c.tag-1.given in
-    Tells a.own a.transmitter a.«data».now c.loop-owner.c (Function g.0.0 g.0.1.0)
+    Tells a.own a.transmitter a.«data».now c.loop-owner.c (Function c.in-Function.tag c.in-Function.body)
 
 function-found : (c : In-Function) → FunctionFound c
-function-found c = let g = c.tag-1.given in found (goal.at.In-Function c).After-header_at (Function g.0.0 g.0.1.0) g.1
+function-found c = found (goal.at.In-Function c).After-header_at (Function c.in-Function.tag c.in-Function.body) c.in-Function.is
 
 pub loop-owner-init : goal.loop-owner-init
 loop-owner-init c =
@@ -70,16 +68,16 @@ pub loop-owner-preserved : goal.loop-owner-preserved
 loop-owner-preserved c =
     let a = c.args in
     let v = c.loop-owner in
-    let g = c.tag-1.given.0 in
+    let g = c.in-Function in
     let n = length a.«data».now in
     let f = function-found (goal.at.loop-owner-preserved c).In-Function in
-    let then : c.see-seen.result ≡ seen_after (hears a.transmitter v.c.owner) a.place v.c.at (given (record { tag = g.0; start = v.c.at + 2; body = g.1.0 })) v.seen =
+    let then : c.see-seen.result ≡ seen_after (hears a.transmitter v.c.owner) a.place v.c.at (given (record { tag = g.tag; start = v.c.at + 2; body = g.body })) v.seen =
     c.see-seen.ensures ∙ ap₂ (λ (b : Bool) (w : Walked). seen_after b a.place v.c.at w v.seen) c.hears.ensures c.given_walk-w.ensures in
-    let on : Left = left_of a.own a.transmitter a.«data».now (record { at = v.c.at + 2 + g.1.0; end = v.c.end; owner = v.c.owner }) in (
+    let on : Left = left_of a.own a.transmitter a.«data».now (record { at = v.c.at + 2 + g.body; end = v.c.end; owner = v.c.owner }) in (
       f.0,
       v.invariant.1,
       ap (λ (s : Seen). told a.place n s on) then
-          ∙ sym (told-function a.place n v.seen (hears a.transmitter v.c.owner) v.c.at g.0 g.1.0 on)
+          ∙ sym (told-function a.place n v.seen (hears a.transmitter v.c.owner) v.c.at g.tag g.body on)
           ∙ ap (told a.place n v.seen) (sym f.1)
           ∙ v.invariant.2,
     )
@@ -88,16 +86,16 @@ pub returns-in-Bad : goal.returns-in-Bad
 returns-in-Bad c =
     let a = c.args in
     let v = c.loop-owner in
-    let g = c.refusal-1.given in
-    let f = found (goal.at.returns-in-Bad c).After-header_at (Bad g.0.0) g.1 in
-    c.stopped.ensures ∙ sym (told-bad a.place (length a.«data».now) v.seen _ g.0.0 v.c.at f.0 f.1) ∙ v.invariant.2
+    let n = c.in-Bad.refusal in
+    let f = found (goal.at.returns-in-Bad c).After-header_at (Bad n) c.in-Bad.is in
+    c.stopped.ensures ∙ sym (told-bad a.place (length a.«data».now) v.seen _ n v.c.at f.0 f.1) ∙ v.invariant.2
 
 pub returns-in-Nothing : goal.returns-in-Nothing
 returns-in-Nothing c =
     let a = c.args in
     let v = c.loop-owner in
     let f = found (goal.at.returns-in-Nothing c).After-header_at Nothing c.in-Nothing.is in
-    c.good2.ensures
+    c.good.ensures
     ∙ ap (λ (w : Walked). record { fault = no_fault; walked = w }) c.finished.ensures
     ∙ sym (told-nothing a.place (length a.«data».now) v.seen _ f)
     ∙ v.invariant.2

@@ -26,6 +26,5 @@ returns c =
     let p = c.args.payload.now in
     from_on 2 p ∙ sym (data-accepted house p (sym c.payload_refusal.ensures ∙ c.if-payload_refusal-ne0.false))
 
--- MISSING slice_bounds-result-start
 pub slice_bounds-result-start : goal.slice_bounds-result-start
-slice_bounds-result-start c = ?
+slice_bounds-result-start c = omega (arith, long c)
