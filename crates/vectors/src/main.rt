@@ -1,6 +1,8 @@
 // Prints the CRC of published byte strings, one line each: a name and the register as eight hexadecimal digits. What it
 // must print, the file stdout, comes from the independent program (tests/independent), which has the same table.
-use libc::STDOUT_FILENO;
+#![tactic(auto)]
+
+use std::io;
 
 // A section of PSI tables as FFmpeg's multiplexer writes it: one programme, its map on PID 0x1000.
 const PAT: [u8; 16] = [
@@ -61,27 +63,27 @@ fn register_line(r: u32) -> [u8; 10] {
 }
 
 // One line: the name, and the CRC of the bytes.
-fn show(name: &[u8], bytes: &[u8]) {
+fn show(rt: &impl Print, name: &[u8], bytes: &[u8]) -> io::Result<()> {
     let line = register_line(crc::crc(bytes));
-    io::write_all(STDOUT_FILENO, name);
-    io::write_all(STDOUT_FILENO, &line);
+    rt.write_all(name)?;
+    rt.write_all(&line)
 }
 
-fn main() {
+fn main(rt: HostRuntime) -> io::Result<()> {
     let pat = PAT;
     let pmt_video = PMT_VIDEO;
     let pmt_video_audio = PMT_VIDEO_AUDIO;
     let timestamp = TIMESTAMP;
     let balancing = BALANCING;
     let padded = PADDED;
-    show(b"empty", b"");
-    show(b"zero", &[0x00]);
-    show(b"check", b"123456789");
-    show(b"all-ff", &[0xff, 0xff, 0xff, 0xff]);
-    show(b"pat", &pat);
-    show(b"pmt-video", &pmt_video);
-    show(b"pmt-video-audio", &pmt_video_audio);
-    show(b"timestamp-packet", &timestamp);
-    show(b"balancing-packet", &balancing);
-    show(b"padded-packet", &padded);
+    show(&rt, b"empty", b"")?;
+    show(&rt, b"zero", &[0x00])?;
+    show(&rt, b"check", b"123456789")?;
+    show(&rt, b"all-ff", &[0xff, 0xff, 0xff, 0xff])?;
+    show(&rt, b"pat", &pat)?;
+    show(&rt, b"pmt-video", &pmt_video)?;
+    show(&rt, b"pmt-video-audio", &pmt_video_audio)?;
+    show(&rt, b"timestamp-packet", &timestamp)?;
+    show(&rt, b"balancing-packet", &balancing)?;
+    show(&rt, b"padded-packet", &padded)
 }
