@@ -17,10 +17,10 @@ ghost use Rattle.sfn.specs.Making.{natural_of, offset_made, waiting_made, power_
 use carry::Carried;
 use functions::Function;
 use packet::Header;
-pub use reader::{sfn_gather, sfn_start};
+pub use reader::{SfnGathered, SfnReader, SfnStarted, sfn_gather, sfn_start};
 use refusals::Written;
 pub use site::{
-    sfn_addressing_read, sfn_addressing_write, sfn_emission, sfn_extra_delay, sfn_mip_read,
+    SfnAddressing, SfnMip, SfnTime, SfnWalked, sfn_addressing_read, sfn_addressing_write, sfn_emission, sfn_extra_delay, sfn_mip_read,
     sfn_mip_write, sfn_walk,
 };
 use stamp::{Kind, Stamp, Subseconds};
@@ -38,16 +38,14 @@ pub struct SfnPacket {
 }
 
 // The register after the bytes.
-#[unsafe(no_mangle)]
-pub extern "C" fn sfn_crc(bytes: &[u8]) -> u32
+pub fn sfn_crc(bytes: &[u8]) -> u32
     ensures { result ≡ crc_of bytes.now }
 {
     crc::crc(bytes)
 }
 
 // The length of the packet that the bytes begin with, or 0 where they do not hold it all.
-#[unsafe(no_mangle)]
-pub extern "C" fn sfn_packet_length(bytes: &[u8]) -> u32
+pub fn sfn_packet_length(bytes: &[u8]) -> u32
     ensures { result ≡ length_held bytes.now }
 {
     let size = packet::own_length(bytes, 0);
@@ -57,8 +55,7 @@ pub extern "C" fn sfn_packet_length(bytes: &[u8]) -> u32
     count_32(size)
 }
 
-#[unsafe(no_mangle)]
-pub extern "C" fn sfn_packet_read(slice: &[u8]) -> SfnPacket
+pub fn sfn_packet_read(slice: &[u8]) -> SfnPacket
     ensures { result ≡ packet_of (read_of slice.now) }
 {
     let p = packet::read(slice);
@@ -73,8 +70,7 @@ pub extern "C" fn sfn_packet_read(slice: &[u8]) -> SfnPacket
     }
 }
 
-#[unsafe(no_mangle)]
-pub extern "C" fn sfn_packet_write(
+pub fn sfn_packet_write(
     kind: u8,
     count: u8,
     frame: u8,
@@ -128,8 +124,7 @@ fn kind_read(refusal: u32, s: Stamp) -> u8
     kind_number(stamp::kind_of(s))
 }
 
-#[unsafe(no_mangle)]
-pub extern "C" fn sfn_stamp_read(payload: &[u8]) -> SfnStamp
+pub fn sfn_stamp_read(payload: &[u8]) -> SfnStamp
     ensures { result ≡ stamp_of (stamp_read payload.now) }
 {
     let answer = stamp::read(payload);
@@ -145,8 +140,7 @@ pub extern "C" fn sfn_stamp_read(payload: &[u8]) -> SfnStamp
     }
 }
 
-#[unsafe(no_mangle)]
-pub extern "C" fn sfn_stamp_write(
+pub fn sfn_stamp_write(
     bw: u8,
     seconds: u64,
     subseconds: u32,
@@ -164,8 +158,7 @@ pub extern "C" fn sfn_stamp_write(
     stamp::write(s, out)
 }
 
-#[unsafe(no_mangle)]
-pub extern "C" fn sfn_carry(pid: u16, first_count: u8, batch: &[u8], out: &mut [u8]) -> Carried
+pub fn sfn_carry(pid: u16, first_count: u8, batch: &[u8], out: &mut [u8]) -> Carried
     ensures { record { answer = result; out = out.new } ≡ carry_of pid first_count batch.now out.old }
 {
     carry::carry(pid, first_count, batch, out)
@@ -244,8 +237,7 @@ fn flat(refusal: u32, f: Function) -> SfnFunction
     }
 }
 
-#[unsafe(no_mangle)]
-pub extern "C" fn sfn_function_read(tag: u8, body: &[u8]) -> SfnFunction
+pub fn sfn_function_read(tag: u8, body: &[u8]) -> SfnFunction
     ensures { result ≡ function_of (function_read tag body.now).refusal (function_read tag body.now).function }
 {
     let answer = functions::function_read(tag, body);
@@ -352,8 +344,7 @@ fn function_from(kind: u8, tag: u8, value: i32, wait: u8, reserved: u8, n: usize
     waiting(kind, v, wait, reserved)
 }
 
-#[unsafe(no_mangle)]
-pub extern "C" fn sfn_function_write(
+pub fn sfn_function_write(
     kind: u8,
     tag: u8,
     value: i32,

@@ -110,8 +110,7 @@ fn gathered_flat(g: Gathered) -> SfnGathered
     }
 }
 
-#[unsafe(no_mangle)]
-pub extern "C" fn sfn_start(pid: u16) -> SfnStarted
+pub fn sfn_start(pid: u16) -> SfnStarted
     ensures { result ≡ started_of (start_of pid) }
 {
     let s = Reader::start(pid);
@@ -123,8 +122,7 @@ pub extern "C" fn sfn_start(pid: u16) -> SfnStarted
     }
 }
 
-#[unsafe(no_mangle)]
-pub extern "C" fn sfn_gather(
+pub fn sfn_gather(
     reader: SfnReader,
     transport: &[u8],
     gathering: &mut [u8],

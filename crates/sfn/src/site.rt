@@ -55,8 +55,7 @@ pub struct SfnTime {
     pub steps: u32,
 }
 
-#[unsafe(no_mangle)]
-pub extern "C" fn sfn_addressing_read(payload: &[u8]) -> SfnAddressing
+pub fn sfn_addressing_read(payload: &[u8]) -> SfnAddressing
     ensures { result ≡ addressing_of (payload_of house payload.now) }
 {
     let p = addressing::payload_read(payload);
@@ -67,8 +66,7 @@ pub extern "C" fn sfn_addressing_read(payload: &[u8]) -> SfnAddressing
     }
 }
 
-#[unsafe(no_mangle)]
-pub extern "C" fn sfn_addressing_write(addressed: &[u8], out: &mut [u8]) -> Written
+pub fn sfn_addressing_write(addressed: &[u8], out: &mut [u8]) -> Written
     ensures { record { answer = result; out = out.new } ≡ addressing_written house addressed.now out.old }
 {
     addressing::payload_write(addressed, out)
@@ -104,8 +102,7 @@ fn step_flat(refusal: u32, next: usize, step: Step) -> SfnWalked
     }
 }
 
-#[unsafe(no_mangle)]
-pub extern "C" fn sfn_walk(addressed: &[u8], transmitter: u16, place: u32) -> SfnWalked
+pub fn sfn_walk(addressed: &[u8], transmitter: u16, place: u32) -> SfnWalked
     ensures { result ≡ walked_of (walk_of house addressed.now transmitter place) }
 {
     let w = addressing::walk_from(addressed, transmitter, place as usize);
@@ -113,8 +110,7 @@ pub extern "C" fn sfn_walk(addressed: &[u8], transmitter: u16, place: u32) -> Sf
     step_flat(w.refusal, w.next, step)
 }
 
-#[unsafe(no_mangle)]
-pub extern "C" fn sfn_mip_read(packet: &[u8]) -> SfnMip
+pub fn sfn_mip_read(packet: &[u8]) -> SfnMip
     ensures { result ≡ mip_flat (mip_read packet.now) }
 {
     let p = mip::read(packet);
@@ -134,8 +130,7 @@ pub extern "C" fn sfn_mip_read(packet: &[u8]) -> SfnMip
     }
 }
 
-#[unsafe(no_mangle)]
-pub extern "C" fn sfn_mip_write(
+pub fn sfn_mip_write(
     count: u8,
     pointer: u16,
     periodic: u8,
@@ -172,8 +167,7 @@ pub extern "C" fn sfn_mip_write(
     mip::write(m, addressed, out)
 }
 
-#[unsafe(no_mangle)]
-pub extern "C" fn sfn_emission(stamp: u32, delay: u32, offset: i32) -> SfnTime
+pub fn sfn_emission(stamp: u32, delay: u32, offset: i32) -> SfnTime
     ensures { result ≡ time_of (emission_of (steps stamp) (steps delay) offset) }
 {
     let t = mip::emission(Steps(stamp), Steps(delay), offset);
@@ -183,8 +177,7 @@ pub extern "C" fn sfn_emission(stamp: u32, delay: u32, offset: i32) -> SfnTime
     }
 }
 
-#[unsafe(no_mangle)]
-pub extern "C" fn sfn_extra_delay(stamp: u32, delay: u32, offset: i32, reception: u32) -> SfnTime
+pub fn sfn_extra_delay(stamp: u32, delay: u32, offset: i32, reception: u32) -> SfnTime
     ensures { result ≡ time_of (extra_of (steps stamp) (steps delay) offset (steps reception)) }
 {
     let t = mip::extra_delay(Steps(stamp), Steps(delay), offset, Steps(reception));
