@@ -1,5 +1,7 @@
 // The library as C sees it: thin functions over the crates below. A slice is a pointer and a length, and an answer a
 // struct by value.
+#![tactic(auto)]
+
 mod reader;
 mod site;
 
@@ -20,8 +22,8 @@ use packet::Header;
 pub use reader::{SfnGathered, SfnReader, SfnStarted, sfn_gather, sfn_start};
 use refusals::Written;
 pub use site::{
-    SfnAddressing, SfnMip, SfnTime, SfnWalked, sfn_addressing_read, sfn_addressing_write, sfn_emission, sfn_extra_delay, sfn_mip_read,
-    sfn_mip_write, sfn_walk,
+    SfnAddressing, SfnMip, SfnTime, SfnWalked, sfn_addressing_read, sfn_addressing_write,
+    sfn_emission, sfn_extra_delay, sfn_mip_read, sfn_mip_write, sfn_walk,
 };
 use stamp::{Kind, Stamp, Subseconds};
 
@@ -140,13 +142,7 @@ pub fn sfn_stamp_read(payload: &[u8]) -> SfnStamp
     }
 }
 
-pub fn sfn_stamp_write(
-    bw: u8,
-    seconds: u64,
-    subseconds: u32,
-    utco: u16,
-    out: &mut [u8],
-) -> Written
+pub fn sfn_stamp_write(bw: u8, seconds: u64, subseconds: u32, utco: u16, out: &mut [u8]) -> Written
     ensures { record { answer = result; out = out.new } ≡ stamp_written (stamp_from bw seconds subseconds utco) out.old }
 {
     let s = Stamp {

@@ -22,7 +22,10 @@ ghost use Rattle.sfn.specs.Site.{addressing_of, walked_of, mip_flat, mip_written
 
 use carry::Carried;
 use refusals::Written;
-use sfn::{SfnAddressing, SfnFunction, SfnGathered, SfnMip, SfnPacket, SfnReader, SfnStamp, SfnStarted, SfnTime, SfnWalked};
+use sfn::{
+    SfnAddressing, SfnFunction, SfnGathered, SfnMip, SfnPacket, SfnReader, SfnStamp, SfnStarted,
+    SfnTime, SfnWalked,
+};
 
 // The register after the bytes.
 #[unsafe(no_mangle)]
@@ -172,7 +175,9 @@ pub extern "C" fn sfn_mip_write(
 ) -> Written
     ensures { record { answer = result; out = out.new } ≡ mip_written count pointer periodic future stamp delay tps addressed.now out.old }
 {
-    sfn::sfn_mip_write(count, pointer, periodic, future, stamp, delay, tps, addressed, out)
+    sfn::sfn_mip_write(
+        count, pointer, periodic, future, stamp, delay, tps, addressed, out,
+    )
 }
 
 #[unsafe(no_mangle)]
