@@ -1,11 +1,15 @@
 // Lists the T2-MI packets that standard input carries on PID 0x1000 (01, "Listing program"). What is printed is said and proved
 // in the crate lines, and so is the cutting into pieces of 188 bytes; here bytes are read and text is written out, in the order
 // that the theorem on whole listings (lines, specs/Theorems) has.
+#![tactic(auto)]
+
 ghost use Rattle.std.specs.Prelude.{◌≡◌, ◌≤◌, false, length, take};
 ghost use Rattle.lines.specs.Theorems.{opened, Ends};
 
-use libc::{STDERR_FILENO, STDIN_FILENO, STDOUT_FILENO};
 use lines::Listing;
+use std::io;
+use std::io::{ErrorKind, Read};
+use std::process::ExitCode;
 
 // Where a listing stands, and whether it is whole: the input came to its end, and all lines are written out.
 #[derive(Clone, Copy)]
@@ -14,27 +18,34 @@ struct Listed {
     whole: bool,
 }
 
-// Writes out the filled part of the lines.
-fn flush(lines: &[u8], filled: usize) -> bool {
+// A message on standard error. Where that cannot be written either nothing is left to say.
+fn complain(rt: &impl Eprint, message: &str) {
+    let _ = rt.eprintln(message);
+}
+
+// Writes out the filled part of the lines. Where that fails standard error says so, but of a reader that went away nothing is
+// said.
+fn flush(rt: &(impl Print + Eprint), lines: &[u8], filled: usize) -> bool {
     if lines.len() < filled {
         return false;
     }
-    let is_written = io::write_all(STDOUT_FILENO, &lines[..filled]);
-    if !is_written {
-        io::write_all(
-            STDERR_FILENO,
-            b"listing: standard output cannot be written\n",
-        );
+    match rt.write_all(&lines[..filled]) {
+        Ok(()) => true,
+        Err(e) => {
+            if e.kind() != ErrorKind::BrokenPipe {
+                complain(rt, "listing: standard output cannot be written");
+            }
+            false
+        }
     }
-    is_written
 }
 
 // Whether a read that brought nothing came to the input's end. Where it failed standard error says so.
-fn is_end(got: isize) -> bool {
-    if got == 0 {
+fn is_end(rt: &impl Eprint, got: io::Result<usize>) -> bool {
+    if got.is_ok() {
         return true;
     }
-    io::write_all(STDERR_FILENO, b"listing: standard input cannot be read\n");
+    complain(rt, "listing: standard input cannot be read");
     false
 }
 
@@ -49,7 +60,7 @@ struct Came {
 
 // More of the input behind the first have bytes of the block, or none where its pieces are not all
 // fed yet.
-fn more(block: &mut [u8], have: usize, full: bool) -> Came
+fn more<R: Read>(rt: &impl Eprint, input: &mut R, block: &mut [u8], have: usize, full: bool) -> Came
     requires { have ≤ length block.old }
     ensures { (have ≤ result.have) × (result.have ≤ length block.new) × (take have block.new ≡ take have block.old) × (result.goes ≡ false → full ≡ false) }
 {
@@ -60,36 +71,39 @@ fn more(block: &mut [u8], have: usize, full: bool) -> Came
             whole: false,
         };
     }
-    let got = libc::read(STDIN_FILENO, &mut block[have..]);
-    if got <= 0 {
-        return Came {
+    match input.read(&mut block[have..]) {
+        Ok(came) if 0 < came => Came {
+            have: have + came,
+            goes: true,
+            whole: false,
+        },
+        got => Came {
             have,
             goes: false,
-            whole: is_end(got),
-        };
-    }
-    let came = io::count(got, &block[have..]);
-    Came {
-        have: have + came,
-        goes: true,
-        whole: false,
+            whole: is_end(rt, got),
+        },
     }
 }
 
 // Lists standard input to its end. After each read all its whole pieces are fed and their lines written out, before the next
-// read; the cut one waits at the block's front. A proved loop has to end, and nothing says that the input does: it counts
-// its turns down from a number that no run uses up. The contract: some run (lines, specs/Theorems) came to the state that
+// read; the cut one waits at the block's front. A proved loop has to end, and nothing says that the input does: it has a number
+// of turns that no run uses up. The contract: some run (lines, specs/Theorems) came to the state that
 // it ends in, and where the listing is whole it left no piece.
-fn list_all(block: &mut [u8], gathering: &mut [u8], output: &mut [u8], lines: &mut [u8]) -> Listed
+fn list_all<R: Read>(
+    rt: &(impl Print + Eprint),
+    input: &mut R,
+    block: &mut [u8],
+    gathering: &mut [u8],
+    output: &mut [u8],
+    lines: &mut [u8],
+) -> Listed
     ensures { Ends (opened gathering.old output.old lines.old) result.listing gathering.new output.new lines.new result.whole }
 {
     let mut listing = Listing::start();
     let mut have: usize = 0;
     let mut full = false;
-    let mut turns = u64::MAX;
-    while 0 < turns {
-        turns -= 1;
-        let came = more(block, have, full);
+    for _ in 0..u64::MAX {
+        let came = more(rt, input, block, have, full);
         if !came.goes {
             return Listed {
                 listing,
@@ -100,7 +114,7 @@ fn list_all(block: &mut [u8], gathering: &mut [u8], output: &mut [u8], lines: &m
         listing = fed.listing;
         full = fed.full;
         have = lines::keep_rest(block, fed.taken, came.have);
-        if !flush(lines, fed.filled) {
+        if !flush(rt, lines, fed.filled) {
             break;
         }
     }
@@ -110,19 +124,32 @@ fn list_all(block: &mut [u8], gathering: &mut [u8], output: &mut [u8], lines: &m
     }
 }
 
-fn main() {
+// The exit status says whether the listing is whole.
+fn main(rt: HostRuntime) -> ExitCode {
+    let mut input = rt.stdin();
     let mut block = [0u8; 192512];
     let mut gathering = [0u8; 8202];
     let mut output = [0u8; 8385];
     let mut lines = [0u8; 65536];
     let head = lines::head_line(&mut lines, 0);
-    if !flush(&lines, head) {
-        return;
+    if !flush(&rt, &lines, head) {
+        return ExitCode::FAILURE;
     }
-    let end = list_all(&mut block, &mut gathering, &mut output, &mut lines);
-    if end.whole {
-        let listing = end.listing;
-        let last = listing.last_line(&mut lines, 0);
-        flush(&lines, last);
+    let end = list_all(
+        &rt,
+        &mut input,
+        &mut block,
+        &mut gathering,
+        &mut output,
+        &mut lines,
+    );
+    if !end.whole {
+        return ExitCode::FAILURE;
     }
+    let listing = end.listing;
+    let last = listing.last_line(&mut lines, 0);
+    if !flush(&rt, &lines, last) {
+        return ExitCode::FAILURE;
+    }
+    ExitCode::SUCCESS
 }
