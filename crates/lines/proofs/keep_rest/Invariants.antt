@@ -1,12 +1,9 @@
 -- `lines::keep_rest` meets its contract: after n turns the first n bytes of the rest are laid, and those behind them are as
 -- they were.
-use borrow.Author.Rules.{rules}
-use lib.ListN.{length, get_or, take, set, length-set}
-use mathlib.Core.Path.{◌≡◌, refl, ap, ◌∙◌}
-use Prim.Native.Nat.{ℕ, ◌+◌, ◌-◌, ◌≤◌}
-use native.Mathlib.Omega.{arith}
+use lib.ListN.{length, take}
+use mathlib.Core.Path.{◌≡◌}
+use Prim.Native.Nat.{◌+◌, ◌-◌, ◌≤◌}
 use Rattle.fields.specs.Parts.{part, overlay}
-use Rattle.lines.proofs.FeedLaws.{kept-none, kept_more, kept-all, kept-at-first}
 use Rattle.lines.proofs.keep_rest.Given as goal
 
 abbrev pub invariant-loop-i : goal.invariant-loop-i

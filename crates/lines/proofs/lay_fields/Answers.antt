@@ -1,7 +1,7 @@
 -- `lines::lay_fields` meets its contract: five words, each behind the one before it.
 use lib.ListN.{length}
 use mathlib.Core.List.{List, ◌++◌}
-use Prim.Native.Nat.{ℕ, ◌+◌, ◌≤◌}
+use Prim.Native.Nat.{ℕ, ◌≤◌}
 use native.Mathlib.Omega.{arith}
 use Rattle.packet.specs.declared.Header.{Header}
 use Rattle.text.specs.Laid.{space, newline, word}

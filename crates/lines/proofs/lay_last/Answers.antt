@@ -2,7 +2,7 @@
 use lib.ListN.{length}
 use mathlib.Core.Path.{◌≡◌, ◌∙◌}
 use mathlib.Core.List.{◌++◌}
-use Prim.Native.Nat.{◌+◌, ◌≤◌}
+use Prim.Native.Nat.{◌≤◌}
 use native.Mathlib.Omega.{arith}
 use Rattle.text.specs.Laid.{space, newline, word, laid}
 use Rattle.lines.specs.Lines.{packets_word, gaps_word, last_line}

@@ -2,7 +2,7 @@
 use borrow.Author.Tests.{leb-true}
 use lib.ListN.{length, drop}
 use mathlib.Core.Path.{sym, ◌∙◌}
-use Prim.Native.Nat.{◌+◌, ◌-◌, ◌≤◌}
+use Prim.Native.Nat.{◌+◌, ◌≤◌}
 use native.Mathlib.Omega.{arith}
 use Rattle.packet.proofs.LayoutLaws.{size-least}
 use Rattle.lines.proofs.LineLaws.{nothing_left, left-short, left-bad, left-room, left-good}

@@ -1,13 +1,9 @@
 -- `lines::lay_lines` meets its contract: laying from the loop's place on what is left is laying all from the start.
-use borrow.Author.Rules.{rules}
-use borrow.Author.Tests.{not-true, not-false, leb-true}
 use lib.ListN.{length, drop}
-use mathlib.Core.Path.{◌≡◌, refl, sym, ◌∙◌}
+use mathlib.Core.Path.{◌≡◌}
 use Prim.Native.Nat.{◌+◌, ◌-◌, ◌*◌, ◌≤◌}
-use native.Mathlib.Omega.{arith}
-use Rattle.packet.proofs.LayoutLaws.{size-least}
 use Rattle.text.specs.Laid.{laid}
-use Rattle.lines.proofs.LineLaws.{lines_from, nothing_left, left-short, left-bad, left-room, left-good}
+use Rattle.lines.proofs.LineLaws.{lines_from}
 use Rattle.lines.proofs.lay_lines.Given as goal
 
 abbrev pub invariant-loop-at : goal.invariant-loop-at

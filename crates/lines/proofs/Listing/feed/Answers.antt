@@ -3,7 +3,7 @@ use borrow.Author.Rules.{rules}
 use borrow.Author.Tests.{leb-true}
 use lib.ListN.{length}
 use mathlib.Core.Path.{sym, ◌∙◌}
-use Prim.Native.Nat.{◌+◌, ◌-◌, ◌≤◌}
+use Prim.Native.Nat.{◌+◌, ◌≤◌}
 use Rattle.lines.proofs.FeedLaws.{feed-ends, feed-stops, feed-goes}
 use Rattle.lines.proofs.Listing.feed.Goals as goal
 use Rattle.lines.proofs.Listing.feed.Goals.{In-loop-end}

@@ -1,13 +1,9 @@
 -- `lines::Listing::feed` meets its contract: feeding what is left from the loop's place on is feeding all from the start.
-use borrow.Author.Rules.{rules}
-use borrow.Author.Tests.{leb-true}
 use lib.ListN.{length, drop}
-use mathlib.Core.Path.{◌≡◌, refl, sym, ◌∙◌}
-use Prim.Native.Nat.{◌+◌, ◌-◌, ◌≤◌}
-use native.Mathlib.Omega.{arith}
+use mathlib.Core.Path.{◌≡◌}
+use Prim.Native.Nat.{◌-◌}
 use Rattle.lines.specs.Pieces.{pieces}
 use Rattle.lines.specs.Listing.{fed_of}
-use Rattle.lines.proofs.FeedLaws.{feed-ends, feed-stops, feed-goes}
 use Rattle.lines.proofs.Listing.feed.Given as goal
 
 abbrev pub invariant-loop-end : goal.invariant-loop-end
