@@ -10,7 +10,6 @@ use Rattle.crc.proofs.OwnLaws.{length-sealed}
 use Rattle.fields.specs.Parts.{overlay}
 use Rattle.fields.proofs.NumberLaws.{length-bytes}
 use Rattle.refusals.specs.Checks.{first}
-use Rattle.refusals.specs.Answers.{answer}
 use Rattle.refusals.proofs.AnswerLaws.{answer-accepted, answer-refused, answer-shows, written-accepted, written-refused, written-shows}
 use Rattle.mip.proofs.FieldLaws.{writable}
 use Rattle.mip.specs.Layout.{crc_end}

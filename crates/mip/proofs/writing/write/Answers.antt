@@ -1,6 +1,4 @@
 -- `mip::writing::write` meets its contract: what is laid back to back is the packet, and nothing else is touched.
--- Assumes nothing.
-use borrow.Author.Rules.{rules}
 use lib.ListN.{length, replicate}
 use mathlib.Core.Path.{◌≡◌, sym, ap, ◌∙◌}
 use mathlib.Core.List.{List, ◌++◌}
@@ -8,7 +6,6 @@ use Prim.Native.Nat.{ℕ, ◌+◌, ◌-◌, ◌≤◌}
 use native.Mathlib.Omega.{arith}
 use Rattle.crc.specs.Sealed.{sealed, sealed_at}
 use Rattle.crc.proofs.OwnLaws.{sealed-next}
-use Rattle.fields.specs.Numbers.{bytes}
 use Rattle.fields.specs.Parts.{overlay, copied_to, filled_at}
 use Rattle.fields.proofs.LaidLaws.{copied_next, filled_next}
 use Rattle.refusals.specs.Checks.{first}
@@ -17,15 +14,15 @@ use Rattle.mip.proofs.FieldLaws.{fit_wide, Writable, writable}
 use Rattle.mip.proofs.Operations.{length-lead, length_front, length-end, write-accepted}
 use Rattle.mip.specs.Write.{lead_bytes, front_bytes, mip_bytes, write_checks, write_of}
 use Rattle.mip.specs.declared.Mip.{Mip}
-use Rattle.mip.proofs.writing.write.Statement.{statement}
-use Rattle.mip.proofs.writing.write.Tie as tie
+use Rattle.mip.proofs.writing.write.Goals as goal
+use Rattle.mip.proofs.writing.write.Goals.{After-lay_lead, Else-refusal-ne0}
 
 -- past the test the fields and the data are written
-passed : (c : tie.Else1) → first (write_checks c.before.before.before.before.args.m c.before.before.before.before.args.addressing.now (length c.before.before.before.before.args.out.now)) ≡ 0
-passed c = sym c.before.write-refusal.ensures ∙ c.if1.false
+passed : (c : Else-refusal-ne0) → first (write_checks c.args.m c.args.addressing.now (length c.args.out.now)) ≡ 0
+passed c = sym c.write_refusal-refusal.ensures ∙ c.if-refusal-ne0.false
 
-well : (c : tie.Else1) → Writable c.before.before.before.before.args.m c.before.before.before.before.args.addressing.now c.before.before.before.before.args.out.now
-well c = writable _ _ c.before.before.before.before.args.out.now (passed c)
+well : (c : Else-refusal-ne0) → Writable c.args.m c.args.addressing.now c.args.out.now
+well c = writable _ _ c.args.out.now (passed c)
 
 -- the four calls, one after the other
 module _ (m : Mip) (d out : List ℕ) (short : length d ≤ 163) (room : 188 ≤ length out) where
@@ -57,65 +54,24 @@ module _ (m : Mip) (d out : List ℕ) (short : length d ≤ 163) (room : 188 ≤
       let three : o3 ≡ overlay 0 (sealed front) out = e3 ∙ ap (sealed_at end) two ∙ with-crc in
       e4 ∙ ap (filled_at (end + 4) (188 - (end + 4)) 0xFF) three ∙ with-stuffing
 
-write-refusal-requires : tie.Need-write-refusal-requires
-write-refusal-requires c κs = search rules
-
-returns : tie.Need-returns
+pub returns-then-refusal-ne0 : goal.returns-then-refusal-ne0
 unfolding write_of
-returns c = written-number _ _ _ _ c.before.write-refusal.ensures c.if1.true
+returns-then-refusal-ne0 c = written-number _ _ _ _ c.write_refusal-refusal.ensures c.if-refusal-ne0.true
 
-add-end : tie.Need-overflow-add-end
-add-end c = search rules
-
-lay-lead-requires : tie.Need-lay-lead-requires
-lay-lead-requires c κs =
-    let w = well c.before in
+pub lay_lead-requires : goal.lay_lead-requires
+lay_lead-requires c =
+    let w = well (goal.at.lay_lead-requires c).Else-refusal-ne0 in
     (fit_wide _ _ w.header w.fit, w.short, omega (arith, w.room))
 
-copy-requires : tie.Need-copy-requires
-copy-requires c κs = search rules
+pub overflow_sub-after : goal.overflow_sub-after
+overflow_sub-after c =
+    omega (arith, (well (goal.at.overflow_sub-after c).Else-refusal-ne0).short)
 
-seal-requires : tie.Need-seal-requires
-seal-requires c κs = search rules
-
-add-after : tie.Need-overflow-add-after
-add-after c = search rules
-
-sub-fill : tie.Need-overflow-sub-fill
-sub-fill c =
-    omega (arith, (well c.before.before.before.before.before.before.before.before.before.before.before.before.before).short)
-
-fill-requires : tie.Need-fill-requires
-fill-requires c κs = search rules
-
-same_length : tie.Need-same-length
-same_length c = search rules
-
-returns-2 : tie.Need-returns-2
-returns-2 c =
-    let f = c.before.before in
-    let s = f.before.before.before.before in
-    let k = s.before.before.before.before in
-    let l = k.before.before.before.before in
-    let e = l.before.before in
-    let a = e.before.before.before.before.args in
+pub returns : goal.returns
+returns c =
+    let e = (goal.at.returns c).Else-refusal-ne0 in
+    let a = c.args in
     let w = well e in
     sym (write-accepted a.m a.addressing.now a.out.now (passed e)
     ∙ ap (λ (l : List ℕ). record { answer = record { refusal = 0; bytes = 188 }; out = l })
-    (sym (steps a.m a.addressing.now a.out.now w.short w.room _ _ _ _ l.lay-lead.ensures k.copy.ensures s.seal.ensures f.fill.ensures)))
-
-pub write_spec : {M : Type 1} → statement M
-write_spec =
-    tie.close
-    (tie.spec
-    write-refusal-requires
-    returns
-    add-end
-    lay-lead-requires
-    copy-requires
-    seal-requires
-    add-after
-    sub-fill
-    fill-requires
-    same_length
-    returns-2)
+    (sym (steps a.m a.addressing.now a.out.now w.short w.room _ _ _ _ c.lay_lead.ensures c.copy.ensures c.seal.ensures c.fill.ensures)))
