@@ -1,6 +1,6 @@
 -- The laws of packets back to back: how a cut unfolds, that nothing is lost by it, and what its packets are.
 -- Assumes nothing.
-use Rattle.std.proofs.Common.{◌≡◌, ℕ, zero, suc, ◌+◌, ◌-◌, ◌<◌, ◌≤◌, Bool, true, false, leb, List, [], ◌∷◌, ◌++◌, length, take, drop, sym, refl, ap, ◌∙◌, append_assoc, append-nil, suc-ne-zero, arith, length-append, length-drop, take-append-drop, length-take-le, take_at, drop_at, le-leb, leb-false, leb-true}
+use Rattle.std.proofs.Common.{◌≡◌, ℕ, zero, suc, ◌<◌, ◌≤◌, Bool, true, false, leb, List, [], ◌∷◌, ◌++◌, length, take, drop, sym, refl, ap, ◌∙◌, append_assoc, append-nil, suc-ne-zero, arith, length-append, length-drop, take-append-drop, length-take-le, take_at, drop_at, le-leb, leb-false, leb-true}
 use borrow.Author.Tests.{lt-leb}
 use Rattle.crc.specs.Crc.{crc_holds}
 use Rattle.fields.proofs.Cases.{cases}

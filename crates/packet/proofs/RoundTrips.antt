@@ -1,7 +1,7 @@
 -- The two round trips of a T2-MI packet: reading what was written gives the fields and the payload, and writing what was
 -- read gives the bytes.
 -- Assumes nothing.
-use Rattle.std.proofs.Common.{◌≡◌, ℕ, ◌+◌, ◌-◌, ◌^◌, ◌<◌, ◌≤◌, true, not, List, [], ◌∷◌, ◌++◌, length, get_or, take, sym, refl, ap, ◌∙◌, subst, ap₂, arith, length-append, take_at, le-ltb, eq-eqb}
+use Rattle.std.proofs.Common.{◌≡◌, ℕ, ◌+◌, ◌^◌, ◌<◌, ◌≤◌, true, not, List, [], ◌∷◌, ◌++◌, length, get_or, take, sym, refl, ap, ◌∙◌, subst, ap₂, arith, length-append, take_at, le-ltb, eq-eqb}
 use Rattle.crc.specs.Crc.{crc_of, crc_holds}
 use Rattle.crc.specs.Sealed.{sealed}
 use Rattle.crc.proofs.OwnLaws.{length-sealed, bytes-sealed, sealed-append, holds-own, holds-only}
@@ -12,7 +12,6 @@ use Rattle.fields.proofs.FormatLaws.{pack-lt, pack-unpack, unpack-pack, unpack-f
 use Rattle.fields.proofs.NumberLaws.{number-bytes, number_lt, bytes-number, length-bytes, bytes-are, bytes-append}
 use Rattle.fields.proofs.PartLaws.{number-at, length_part, part_bytes, part-add, part-front, part-behind, take-front}
 use Rattle.refusals.specs.Checks.{first}
-use Rattle.refusals.specs.Answers.{answer}
 use Rattle.refusals.proofs.CheckLaws.{first-zero}
 use Rattle.refusals.proofs.AnswerLaws.{answer-accepted, answer-refused, answer-shows, written-accepted, written-refused, written-shows}
 use Rattle.packet.proofs.FieldLaws.{size-field, Readable, readable, Writable, writable}

@@ -14,7 +14,6 @@ use Rattle.fields.proofs.FormatLaws.{pack-lt, pack-unpack, unpack-pack, unpack-f
 use Rattle.fields.proofs.NumberLaws.{number-bytes, number_lt, bytes-number, length-bytes}
 use Rattle.fields.proofs.PartLaws.{take-front}
 use Rattle.refusals.specs.Checks.{first}
-use Rattle.refusals.specs.Answers.{answer}
 use Rattle.refusals.proofs.CheckLaws.{first-zero}
 use Rattle.refusals.proofs.AnswerLaws.{answer-accepted, answer-refused, answer-shows, written-accepted, written-refused, written-shows}
 use Rattle.stamp.proofs.FieldLaws.{Readable, readable, Writable, writable}

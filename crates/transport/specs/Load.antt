@@ -1,5 +1,5 @@
 -- A transport packet of the writer's: its header, an adaptation field for the room that is left, and what it carries.
-use Rattle.std.specs.Prelude.{ℕ, zero, suc, ◌+◌, ◌-◌, List, [], ◌∷◌, ◌++◌, length, replicate}
+use Rattle.std.specs.Prelude.{ℕ, zero, suc, ◌-◌, List, [], ◌∷◌, ◌++◌, length, replicate}
 use Rattle.fields.specs.Formats.{pack}
 use Rattle.fields.specs.Numbers.{bytes}
 use Rattle.transport.specs.Header.{header}

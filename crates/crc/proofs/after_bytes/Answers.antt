@@ -1,7 +1,6 @@
--- `crc::after_bytes` gives what the bytes leave in the register. The loop keeps that the bytes from `i` on take the present
--- register where all the bytes take the first one, and each turn leaves one byte fewer.
+-- `crc::after_bytes` gives what the bytes leave in the register.
 use mathlib.Core.Path.{sym, ap, ◌∙◌}
-use Prim.Native.Nat.{ℕ, ◌+◌, ◌-◌}
+use Prim.Native.Nat.{ℕ, ◌+◌}
 use native.Mathlib.Omega.{arith}
 use lib.ListN.{drop}
 use Rattle.crc.specs.Crc.{run}

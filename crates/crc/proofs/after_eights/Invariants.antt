@@ -1,14 +1,9 @@
--- `crc::after_eights` gives what the bytes leave in the register. The loop keeps that the bytes from `i` on take the present register
--- where all the bytes take the first one, and each turn leaves eight bytes fewer.
-use mathlib.Core.Path.{◌≡◌, refl, ap, ◌∙◌}
-use Prim.Native.Nat.{ℕ, ◌+◌, ◌-◌, ◌≤◌}
-use native.Mathlib.Omega.{arith}
-use lib.Dec.{lit≤}
-use lib.ListN.{length, drop, length-drop}
-use lib.Seq.{take_all}
+-- The loop keeps that the bytes from `i` on take the present register where all the bytes take the first one, and each turn
+-- leaves eight bytes fewer.
+use mathlib.Core.Path.{◌≡◌}
+use Prim.Native.Nat.{◌-◌, ◌≤◌}
+use lib.ListN.{length, drop}
 use Rattle.crc.specs.Crc.{run}
-use Rattle.crc.proofs.TableLaws.{eight-next, fewer}
-use borrow.Author.Rules.{rules}
 use Rattle.crc.proofs.after_eights.Given as goal
 
 abbrev pub invariant-loop-i : goal.invariant-loop-i

@@ -1,13 +1,9 @@
--- `crc::after_zeros` gives what zero digits leave of a register. The loop keeps that the sum so far and what zero digits leave of
--- the digits that are left are what is wanted, and each turn takes a digit.
-use mathlib.Core.Path.{◌≡◌, sym, ap}
-use Prim.Native.Nat.{ℕ, ◌+◌, ◌-◌, ◌*◌, ◌/◌, ◌^◌, ◌≤◌}
-use native.Mathlib.Nat.{add-zero, div-one}
-use native.Mathlib.Omega.{arith}
+-- The loop keeps that the sum so far and what zero digits leave of the digits that are left are what is wanted, and each
+-- turn takes a digit.
+use mathlib.Core.Path.{◌≡◌}
+use Prim.Native.Nat.{◌+◌, ◌-◌, ◌*◌, ◌/◌, ◌^◌, ◌≤◌}
 use lib.Bits.{bit_xor}
 use Rattle.crc.specs.Tables.{zeros}
-use Rattle.crc.proofs.TableLaws.{digit-turn, rest-turn, rest_lt, digits-end, fewer}
-use borrow.Author.Rules.{rules}
 use Rattle.crc.proofs.after_zeros.Given as goal
 
 abbrev pub invariant-loop-j : goal.invariant-loop-j

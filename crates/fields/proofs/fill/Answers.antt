@@ -1,4 +1,4 @@
--- `fields::fill` meets its contract: after each turn one byte more is laid.
+-- `fields::fill` meets its contract.
 use borrow.Author.Rules.{rules}
 use borrow.Author.Tests.{leb-true}
 use lib.Dec.{leb}

@@ -1,5 +1,4 @@
--- `fields::number_at` meets its contract: after i turns the number is that of the first i bytes, so it has room for a
--- byte more while i is under eight.
+-- `fields::number_at` meets its contract.
 use borrow.Author.Rules.{rules}
 use borrow.Author.Tests.{leb-true, lt-leb}
 use lib.Dec.{leb}
@@ -8,7 +7,7 @@ use lib.Pow.{pow_mono}
 use mathlib.Core.Path.{◌≡◌, sym, ap, ◌∙◌}
 use mathlib.Core.Bool.{false}
 use mathlib.Core.List.{List}
-use Prim.Native.Nat.{ℕ, ◌+◌, ◌-◌, ◌*◌, ◌^◌, ◌≤◌, ◌<◌}
+use Prim.Native.Nat.{ℕ, ◌+◌, ◌*◌, ◌^◌, ◌≤◌, ◌<◌}
 use native.Mathlib.Nat.{lt_of_lt_of_le}
 use native.Mathlib.Omega.{arith}
 use Rattle.fields.proofs.Cases.{cases}
@@ -45,7 +44,7 @@ returns-then-n-gt8 c = sym (over c.args.at c.args.n c.args.s.now c.if-n-gt8.true
 
 pub loop-i-init : goal.loop-i-init
 loop-i-init c =
-    (search rules, leb-true _ _ (sym c.within.ensures ∙ c.if-not-within.false), c.if-n-gt8.false, λ i. (c.shared_slice_known-1.given i).fits, sym (ap number (part_none _ _) ∙ number-nil))
+    (search rules, leb-true _ _ (sym c.within.ensures ∙ c.if-not-within.false), c.if-n-gt8.false, search rules, sym (ap number (part_none _ _) ∙ number-nil))
 
 pub overflow_mul-v : goal.overflow_mul-v
 overflow_mul-v c =

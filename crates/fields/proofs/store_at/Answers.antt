@@ -1,4 +1,4 @@
--- `fields::store_at` meets its contract: after i turns the first i of the bytes are laid.
+-- `fields::store_at` meets its contract.
 use borrow.Author.Rules.{rules}
 use borrow.Author.Tests.{leb-true, lt-leb}
 use lib.Dec.{leb}
@@ -7,7 +7,7 @@ use lib.Seq.{take_all}
 use mathlib.Core.Path.{◌≡◌, refl, sym, ap, ◌∙◌}
 use mathlib.Core.Bool.{false}
 use mathlib.Core.List.{List}
-use Prim.Native.Nat.{ℕ, ◌+◌, ◌-◌, ◌<◌}
+use Prim.Native.Nat.{ℕ, ◌+◌, ◌<◌}
 use native.Mathlib.Nat.{le_of_eq}
 use native.Mathlib.Omega.{arith}
 use Rattle.fields.proofs.Cases.{cases}

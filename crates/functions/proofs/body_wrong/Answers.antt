@@ -1,5 +1,6 @@
 -- `functions::body_wrong` meets its contract: in each arm the tag is a number of the table, and in the last it is one that
 -- takes any body.
+use borrow.Author.Rules.{rules}
 use mathlib.Core.Path.{◌≡◌, refl, sym, ap}
 use mathlib.Core.Logic.{◌⊎◌, inl, inr, ⊎_elim}
 use mathlib.Core.Bool.{false}
@@ -36,5 +37,4 @@ unfolding body_wrong
 returns-in-6 c = sym (ap (λ (t : ℕ). body_wrong t c.args.n) c.in-6.is)
 
 pub returns-in_default : goal.returns-in_default
-returns-in_default c =
-    sym (free c.args.tag c.args.n c.in_default.in_default-own.rest.0.0.1 c.in_default.in_default-own.rest.0.1 c.in_default.in_default-own.rest.1)
+returns-in_default c = sym (free c.args.tag c.args.n (search rules) (search rules) (search rules))

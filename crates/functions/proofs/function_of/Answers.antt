@@ -1,9 +1,10 @@
 -- `functions::function_of` meets its contract: in each arm the tag says how long the body is, so that its number fits; the
 -- code divides by the weights that the formats give their fields.
+use borrow.Author.Rules.{rules}
 use lib.ListN.{length, get_or-eq_default}
 use mathlib.Core.Path.{◌≡◌, sym, ap, ◌∙◌}
 use mathlib.Core.List.{List}
-use Prim.Native.Nat.{ℕ, suc, zero-le, ◌*◌, ◌/◌, ◌%◌, ◌^◌, ◌≤◌, ◌<◌}
+use Prim.Native.Nat.{ℕ, ◌*◌, ◌/◌, ◌%◌, ◌^◌, ◌≤◌, ◌<◌}
 use native.Mathlib.Nat.{div-one}
 use native.Mathlib.Omega.{arith}
 use mir.Syntax.{w16, w32}
@@ -29,10 +30,7 @@ value c k e h = c.number_at-v.ensures ∙ number-whole c.args.body.now (rw (long
 
 below : (c : After-number_at-v) (k : ℕ) → size_of c.args.tag ≡ exactly k → k ≤ 8 → c.number_at-v.result < 2 ^ (8 * k)
 below c k e h =
-    rw (value c k e h) (number_small k c.args.body.now (long c k e) (λ i. (c.shared_slice_known-1.given i).fits))
-
-past : (k t : ℕ) → k ≤ t → (t ≡ k → ⊥) → suc k ≤ t
-past k t h e = omega arith
+    rw (value c k e h) (number_small k c.args.body.now (long c k e) (search rules))
 
 cell-read : (s : List ℕ) → Cell (number s / 256 % 65536) (is_set (number s / 128 % 2)) (number s % 128) ≡ Cell (field cell 0 s) (is_set (field cell 1 s)) (field cell 2 s)
 unfolding unpack
@@ -103,7 +101,5 @@ returns-in-6 c =
 pub returns-in_default : goal.returns-in_default
 unfolding function_of
 returns-in_default c =
-    let t = c.args.tag in
-    let r = c.in_default.in_default-own.rest in
-    let h : 7 ≤ t = past 6 t (past 5 t (past 4 t (past 3 t (past 2 t (past 1 t (past 0 t zero-le r.0.0.0.0.0.0.1) r.0.0.0.0.0.1) r.0.0.0.0.1) r.0.0.0.1) r.0.0.1) r.0.1) r.1 in
-    sym (get_or-eq_default (known c.args.body.now) (Passed t) h)
+    let h : 7 ≤ c.args.tag = omega arith in
+    sym (get_or-eq_default (known c.args.body.now) (Passed c.args.tag) h)

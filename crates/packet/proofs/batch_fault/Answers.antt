@@ -1,5 +1,5 @@
--- `packet::batch_fault` meets its contract: the fault of what is left of the batch is the fault of all of it.
-use Rattle.std.proofs.Common.{◌≡◌, ℕ, ◌+◌, ◌-◌, ◌<◌, ◌≤◌, List, length, drop, sym, ap, ◌∙◌, subst, arith, length-drop, drop_of_length-le, drop-drop}
+-- `packet::batch_fault` meets its contract.
+use Rattle.std.proofs.Common.{◌≡◌, ℕ, ◌+◌, ◌<◌, ◌≤◌, List, length, drop, sym, ap, ◌∙◌, subst, arith, length-drop, drop_of_length-le, drop-drop}
 use Rattle.packet.specs.Cut.{judge_of, batch_fault}
 use Rattle.packet.specs.declared.Judged.{Judged}
 use Rattle.packet.specs.declared.Judged.TheVariants.{Good}

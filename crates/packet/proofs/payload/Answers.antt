@@ -1,5 +1,5 @@
 -- `packet::payload` meets its contract: what lies between the header and the CRC of an accepted packet.
-use Rattle.std.proofs.Common.{sym, ◌∙◌, arith}
+use Rattle.std.proofs.Common.{sym, ◌∙◌, arith, rules}
 use Rattle.packet.proofs.FieldLaws.{payload-part, Readable, readable}
 use Rattle.packet.proofs.RoundTrips.{read-refused, payload-accepted}
 use Rattle.packet.proofs.payload.Goals as goal
@@ -26,5 +26,5 @@ pub returns : goal.returns
 returns c =
     let s = c.args.s.now in
     let r = read-well (goal.at.returns c).Else-read_refusal-ne0 in
-    payload-part s (λ i. (c.shared_slice_known-1.given i).fits) r.long r.size
+    payload-part s (search rules) r.long r.size
     ∙ sym (payload-accepted s (sym c.read_refusal.ensures ∙ c.if-read_refusal-ne0.false))

@@ -1,5 +1,5 @@
 -- `packet::read_refusal` meets its contract: a chain of early returns in the order of the definition's list.
-use Rattle.std.proofs.Common.{◌≡◌, ℕ, ◌-◌, not, List, length, take, drop, sym, ap, ◌∙◌, ap₂, le-ltb, lt-ltb, eq-eqb, ne_eqb}
+use Rattle.std.proofs.Common.{◌≡◌, ℕ, ◌-◌, not, List, length, take, drop, sym, ap, ◌∙◌, ap₂, le-ltb, lt-ltb, eq-eqb, ne_eqb, rules}
 use Rattle.refusals.specs.Checks.{Check}
 use Rattle.refusals.proofs.CheckLaws.{Clear, first-at, first-none}
 use Rattle.packet.proofs.FieldLaws.{payload-part}
@@ -18,7 +18,7 @@ kind-judged c = c.reserved_type.ensures ∙ ap (λ (h : Header). reserved_type h
 
 lent : (c : Else-reserved_type) → take (length c.args.s.now - 4 - 6) (drop 6 c.args.s.now) ≡ payload_of c.args.s.now
 lent c =
-    payload-part c.args.s.now (λ i. (c.shared_slice_known-1.given i).fits) c.if-s-lt10.false
+    payload-part c.args.s.now (search rules) c.if-s-lt10.false
     (c.if-s-size.false ∙ c.own_length-size.ensures)
 
 pad-judged : (c : After-pad_set) → c.pad_set.result ≡ pad_set (field 5 c.args.s.now) (payload_of c.args.s.now)

@@ -8,13 +8,10 @@ use Rattle.refusals.proofs.CheckLaws.{Clear, first-at, first-none}
 use Rattle.stamp.specs.Layout.{bandwidth_over, second_reached}
 use Rattle.stamp.specs.Read.{stamp_of, read_checks}
 use Rattle.stamp.proofs.read_refusal.Goals as goal
-use Rattle.stamp.proofs.read_refusal.Goals.{After-second_reached, After-struct_known-1, Else-payload-ne11, Else-reserved_set, Else-second_reached, Else-stamp-gt5, Start}
+use Rattle.stamp.proofs.read_refusal.Goals.{After-second_reached, Else-payload-ne11, Else-reserved_set, Else-second_reached, Else-stamp-gt5, Start}
 
 abbrev checks : Start → List Check
 checks c = read_checks c.args.payload.now
-
-band-judged : (c : After-struct_known-1) → bandwidth_over c.stamp_of-stamp.result ≡ bandwidth_over (stamp_of c.args.payload.now)
-band-judged c = ap bandwidth_over c.stamp_of-stamp.ensures
 
 second-judged : (c : After-second_reached) → c.second_reached.result ≡ second_reached (stamp_of c.args.payload.now)
 second-judged c = c.second_reached.ensures ∙ ap second_reached c.stamp_of-stamp.ensures
@@ -29,7 +26,7 @@ past2 c = (past1 (goal.at.Else-reserved_set c).Else-payload-ne11, sym c.reserved
 
 past3 : (c : Else-stamp-gt5) → Clear 3 (checks (goal.at.Else-stamp-gt5 c).Start)
 unfolding read_checks
-past3 c = (past2 (goal.at.Else-stamp-gt5 c).Else-reserved_set, sym (band-judged (goal.at.Else-stamp-gt5 c).After-struct_known-1) ∙ le-ltb _ _ c.if-stamp-gt5.false)
+past3 c = (past2 (goal.at.Else-stamp-gt5 c).Else-reserved_set, sym (ap bandwidth_over c.stamp_of-stamp.ensures) ∙ le-ltb _ _ c.if-stamp-gt5.false)
 
 past4 : (c : Else-second_reached) → Clear 4 (checks (goal.at.Else-second_reached c).Start)
 unfolding read_checks
@@ -47,7 +44,7 @@ returns-then-reserved_set c =
 pub returns-then-stamp-gt5 : goal.returns-then-stamp-gt5
 unfolding read_checks
 returns-then-stamp-gt5 c =
-    first-at 2 (checks (goal.at.returns-then-stamp-gt5 c).Start) (past2 (goal.at.returns-then-stamp-gt5 c).Else-reserved_set) (sym (band-judged (goal.at.returns-then-stamp-gt5 c).After-struct_known-1) ∙ lt-ltb _ _ c.if-stamp-gt5.true)
+    first-at 2 (checks (goal.at.returns-then-stamp-gt5 c).Start) (past2 (goal.at.returns-then-stamp-gt5 c).Else-reserved_set) (sym (ap bandwidth_over c.stamp_of-stamp.ensures) ∙ lt-ltb _ _ c.if-stamp-gt5.true)
 
 pub returns-then-second_reached : goal.returns-then-second_reached
 unfolding read_checks

@@ -1,4 +1,5 @@
 -- `stamp::reserved_set` meets its contract: the four bits stand above the last 44 of the first half.
+use borrow.Author.Rules.{rules}
 use lib.Dec.{eqb}
 use mathlib.Core.Path.{sym, ap, ◌∙◌}
 use mathlib.Core.Bool.{not}
@@ -10,4 +11,4 @@ pub returns : goal.returns
 returns c =
     ap (λ (x : ℕ). not (eqb x 0))
     (ap (λ (x : ℕ). x / 2 ^ 44 % 16) c.number_at-front.ensures
-    ∙ sym (reserved-half c.args.payload.now (λ i. (c.shared_slice_known-1.given i).fits) c.requires))
+    ∙ sym (reserved-half c.args.payload.now (search rules) c.requires))

@@ -1,4 +1,5 @@
 -- `stamp::stamp_of` meets its contract: each half is divided by the weights that its format gives its fields.
+use borrow.Author.Rules.{rules}
 use mathlib.Core.Path.{sym, ap₂, ◌∙◌}
 use Rattle.stamp.proofs.FieldLaws.{from_halves, stamp-halves}
 use Rattle.stamp.proofs.stamp_of.Goals as goal
@@ -6,4 +7,4 @@ use Rattle.stamp.proofs.stamp_of.Goals as goal
 pub returns : goal.returns
 returns c =
     ap₂ from_halves c.number_at-front.ensures c.number_at-back.ensures
-    ∙ sym (stamp-halves c.args.payload.now (λ i. (c.shared_slice_known-1.given i).fits) c.requires)
+    ∙ sym (stamp-halves c.args.payload.now (search rules) c.requires)

@@ -1,4 +1,4 @@
--- `text::digit_count` meets its contract: what is counted and the digits that are left are all the digits.
+-- `text::digit_count` meets its contract.
 use lib.ListN.{length}
 use mathlib.Core.Path.{◌≡◌, ap}
 use native.Mathlib.Omega.{arith}

@@ -1,11 +1,8 @@
--- `text::digit_count` meets its contract: what is counted and the digits that are left are all the digits.
-use borrow.Author.Rules.{rules}
+-- What is counted and the digits that are left are all the digits.
 use lib.ListN.{length}
-use mathlib.Core.Path.{◌≡◌, ap}
+use mathlib.Core.Path.{◌≡◌}
 use Prim.Native.Nat.{◌+◌, ◌≤◌}
-use native.Mathlib.Omega.{arith}
 use Rattle.text.specs.Digits.{spell, digits}
-use Rattle.text.proofs.DigitLaws.{spell-zero, spell-counts, digits-count, digits-few}
 use Rattle.text.proofs.digit_count.Given as goal
 
 abbrev pub invariant-loop-rest : goal.invariant-loop-rest

@@ -1,5 +1,4 @@
--- `text::lay_digits` meets its contract: the digits from i on are laid, and those before them are the last i of what is left
--- of the number.
+-- `text::lay_digits` meets its contract.
 use borrow.Author.Rules.{rules}
 use lib.ListN.{length-set}
 use mathlib.Core.Path.{◌≡◌, refl}

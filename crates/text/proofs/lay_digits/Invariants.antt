@@ -1,16 +1,11 @@
--- `text::lay_digits` meets its contract: the digits from i on are laid, and those before them are the last i of what is left
--- of the number.
-use borrow.Author.Rules.{rules}
-use lib.ListN.{length, drop, length-set}
-use mathlib.Core.Path.{◌≡◌, refl, ◌∙◌}
+-- The digits from i on are laid, and those before them are the last i of what is left of the number.
+use lib.ListN.{length, drop}
+use mathlib.Core.Path.{◌≡◌}
 use mathlib.Core.List.{◌++◌}
-use Prim.Native.Nat.{◌+◌, ◌-◌, ◌≤◌}
-use native.Mathlib.Nat.{add-zero}
-use native.Mathlib.Omega.{arith}
+use Prim.Native.Nat.{◌+◌, ◌≤◌}
 use Rattle.fields.specs.Parts.{overlay}
 use Rattle.text.specs.Digits.{digits}
 use Rattle.text.proofs.DigitLaws.{ending}
-use Rattle.text.proofs.LayLaws.{digits-left, digit-laid, digits-first, digits-none}
 use Rattle.text.proofs.lay_digits.Given as goal
 
 abbrev pub invariant-loop-i : goal.invariant-loop-i
