@@ -33,7 +33,7 @@
 #define SFN_OUTPUT 8385        /* bytes that the output of a reader has at least */
 #define SFN_BATCH_MOST 65536   /* bytes of a batch at most */
 #define SFN_NONE 255           /* sfn_reader.last: no count was taken yet */
-#define SFN_STACK 2048         /* bytes of stack that a call takes at most (1,552 measured) */
+#define SFN_STACK 2048         /* bytes of stack that a call takes at most (1,872 measured) */
 
 /* sfn_stamp.kind */
 #define SFN_STAMP_ABSOLUTE 0
