@@ -1,4 +1,3 @@
--- `carry::left_after` meets its contract: what is left after the bytes still to go is what is left after all of them.
 use borrow.Author.Rules.{rules}
 use lib.ListN.{drop}
 use lib.Seq.{drop-drop}

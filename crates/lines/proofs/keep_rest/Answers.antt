@@ -1,5 +1,3 @@
--- `lines::keep_rest` meets its contract: after n turns the first n bytes of the rest are laid, and those behind them are as
--- they were.
 use lib.ListN.{get_or, set, length-set}
 use mathlib.Core.Path.{refl, ap, ◌∙◌}
 use Prim.Native.Nat.{ℕ, ◌-◌}

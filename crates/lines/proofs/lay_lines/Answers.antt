@@ -1,4 +1,3 @@
--- `lines::lay_lines` meets its contract: laying from the loop's place on what is left is laying all from the start.
 use borrow.Author.Tests.{leb-true}
 use lib.ListN.{length, drop}
 use mathlib.Core.Path.{sym, ◌∙◌}

@@ -1,4 +1,3 @@
--- `lines::Listing::feed` meets its contract: feeding what is left from the loop's place on is feeding all from the start.
 use borrow.Author.Rules.{rules}
 use borrow.Author.Tests.{leb-true}
 use lib.ListN.{length}
