@@ -1,3 +1,4 @@
+-- `addressing::pass` meets its contract: what it has seen, with what is left at the cursor, tells of all the data.
 use lib.ListN.{length}
 use mathlib.Core.Bool.{Bool}
 use mathlib.Core.Path.{◌≡◌, sym, ap, ap₂, ◌∙◌, subst}
