@@ -1,6 +1,6 @@
 -- Which bytes each transport packet carries: 01's four cases, over the bytes left of the packet under way and the packets
 -- that follow.
-use Rattle.std.specs.Prelude.{ℕ, zero, suc, ◌+◌, ◌-◌, Bool, true, false, cond, ◌&&◌, List, [], ◌∷◌, ◌++◌, leb, eqb, length, take, drop}
+use Rattle.std.specs.Prelude.{ℕ, zero, suc, ◌-◌, Bool, true, false, cond, ◌&&◌, List, [], ◌∷◌, ◌++◌, leb, eqb, length, take, drop}
 use Rattle.packet.specs.Cut.{joined}
 use Rattle.transport.specs.Load.{Load, plain, start}
 

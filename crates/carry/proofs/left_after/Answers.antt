@@ -1,4 +1,4 @@
--- `carry::left_after` meets its contract: what is left after the bytes still to go is what is left after all of them.
+-- `carry::left_after` meets its contract.
 use borrow.Author.Rules.{rules}
 use lib.ListN.{drop}
 use lib.Seq.{drop-drop}

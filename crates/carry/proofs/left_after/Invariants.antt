@@ -1,14 +1,8 @@
--- `carry::left_after` meets its contract: what is left after the bytes still to go is what is left after all of them.
-use borrow.Author.Rules.{rules}
+-- What is left after the bytes still to go is what is left after all of them.
 use lib.ListN.{drop}
-use lib.Seq.{drop-drop}
-use mathlib.Core.Path.{◌≡◌, refl, sym, ap, ◌∙◌}
-use mathlib.Core.List.{List}
-use Prim.Native.Nat.{ℕ, ◌+◌, ◌-◌, ◌≤◌, ◌<◌}
-use native.Mathlib.Omega.{arith}
+use mathlib.Core.Path.{◌≡◌}
+use Prim.Native.Nat.{◌+◌, ◌≤◌}
 use Rattle.packet.specs.Layout.{size_of}
-use Rattle.packet.proofs.LayoutLaws.{size-least}
-use Rattle.carry.proofs.ByteLaws.{left-none, left-past, left_in}
 use Rattle.carry.specs.OnBytes.{left_of}
 use Rattle.carry.proofs.left_after.Given as goal
 

@@ -1,7 +1,6 @@
--- `carry::needed` meets its contract: the loads counted, and those of what is left, are all the loads.
+-- `carry::needed` meets its contract.
 use lib.ListN.{length, drop}
 use mathlib.Core.Path.{◌≡◌, ap}
-use Prim.Native.Nat.{◌-◌}
 use native.Mathlib.Omega.{arith}
 use Rattle.carry.proofs.ByteLaws.{load_one, loads-end}
 use Rattle.carry.specs.OnBytes.{loads_from}

@@ -1,11 +1,7 @@
--- `carry::needed` meets its contract: the loads counted, and those of what is left, are all the loads.
-use borrow.Author.Rules.{rules}
+-- The loads counted, and those of what is left, are all the loads.
 use lib.ListN.{length, drop}
-use mathlib.Core.Path.{◌≡◌, ap}
+use mathlib.Core.Path.{◌≡◌}
 use Prim.Native.Nat.{◌+◌, ◌-◌, ◌≤◌}
-use native.Mathlib.Nat.{zero-add}
-use native.Mathlib.Omega.{arith}
-use Rattle.carry.proofs.ByteLaws.{load_one, loads-end}
 use Rattle.carry.specs.OnBytes.{loads_from}
 use Rattle.carry.proofs.needed.Given as goal
 

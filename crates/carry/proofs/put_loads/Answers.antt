@@ -1,9 +1,9 @@
--- `carry::put_loads` meets its contract: what is laid, and what is still to be laid, is all of it.
+-- `carry::put_loads` meets its contract.
 use borrow.Author.Rules.{rules}
 use lib.ListN.{length, drop, length-drop}
 use mathlib.Core.Path.{◌≡◌, refl, sym, ap, ◌∙◌}
 use mathlib.Core.List.{List, [], ◌∷◌, ◌++◌}
-use Prim.Native.Nat.{ℕ, ◌+◌, ◌-◌, ◌*◌, ◌%◌, ◌≤◌, ◌<◌}
+use Prim.Native.Nat.{ℕ, ◌+◌, ◌*◌, ◌%◌, ◌≤◌, ◌<◌}
 use native.Mathlib.Omega.{arith}
 use Rattle.fields.specs.Parts.{overlay}
 use Rattle.fields.proofs.PartLaws.{overlay-none, overlay-next}

@@ -1,21 +1,12 @@
--- `carry::put_loads` meets its contract: what is laid, and what is still to be laid, is all of it.
-use borrow.Author.Rules.{rules}
-use lib.ListN.{length, drop, length-drop}
-use mathlib.Core.Path.{◌≡◌, refl, sym, ap, ◌∙◌}
-use mathlib.Core.List.{List, [], ◌∷◌, ◌++◌}
+-- What is laid, and what is still to be laid, is all of it.
+use lib.ListN.{length, drop}
+use mathlib.Core.Path.{◌≡◌}
+use mathlib.Core.List.{List}
 use Prim.Native.Nat.{ℕ, ◌+◌, ◌-◌, ◌*◌, ◌%◌, ◌≤◌, ◌<◌}
-use native.Mathlib.Nat.{zero-add}
-use native.Mathlib.Omega.{arith}
 use Rattle.fields.specs.Parts.{overlay}
-use Rattle.fields.proofs.PartLaws.{overlay-none, overlay-next}
 use Rattle.packet.specs.Cut.{joined}
-use Rattle.transport.specs.Load.{Load, transport_of}
-use Rattle.transport.proofs.LoadLaws.{transport-length}
-use Rattle.carry.proofs.ByteLaws.{load_one, loads-end, load-sound}
-use Rattle.carry.specs.Building.{Laid}
 use Rattle.carry.specs.Carry.{numbered}
-use Rattle.carry.specs.OnBytes.{plan_of, load_for, loads_from}
-use Rattle.carry.specs.declared.Plan.{Plan}
+use Rattle.carry.specs.OnBytes.{loads_from}
 use Rattle.carry.proofs.put_loads.Given as goal
 
 -- at a turn: what is still to be laid over the output as it is gives what all of it over the first gives
