@@ -1,8 +1,7 @@
--- `gather::follow` meets its contract: what follows from the loop's place on, with what is already counted, is what followed from
--- the start.
+-- `gather::follow` meets its contract.
 use lib.ListN.{length}
 use mathlib.Core.Path.{refl, ◌∙◌}
-use Prim.Native.Nat.{◌+◌, ◌-◌, ◌≤◌}
+use Prim.Native.Nat.{◌+◌, ◌≤◌}
 use native.Mathlib.Omega.{arith}
 use Rattle.gather.proofs.FollowLaws.{followed-short, followed-bad, lies, followed-good}
 use Rattle.gather.proofs.follow.Goals as goal

@@ -1,12 +1,8 @@
--- `gather::follow` meets its contract: what follows from the loop's place on, with what is already counted, is what followed from
--- the start.
-use borrow.Author.Rules.{rules}
+-- What follows from the loop's place on, with what is already counted, is what followed from the start.
 use lib.ListN.{length, drop}
-use mathlib.Core.Path.{◌≡◌, refl, ◌∙◌}
+use mathlib.Core.Path.{◌≡◌}
 use Prim.Native.Nat.{◌+◌, ◌-◌, ◌≤◌}
-use native.Mathlib.Omega.{arith}
 use Rattle.gather.specs.Phases.{followed_of}
-use Rattle.gather.proofs.FollowLaws.{followed-short, followed-bad, lies, followed-good}
 use Rattle.gather.proofs.follow.Given as goal
 
 abbrev pub invariant-loop-size : goal.invariant-loop-size
