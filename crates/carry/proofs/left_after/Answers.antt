@@ -1,3 +1,4 @@
+-- `carry::left_after` meets its contract.
 use borrow.Author.Rules.{rules}
 use lib.ListN.{drop}
 use lib.Seq.{drop-drop}

@@ -1,4 +1,4 @@
--- `carry::left_after` meets its contract: what is left after the bytes still to go is what is left after all of them.
+-- What is left after the bytes still to go is what is left after all of them.
 use lib.ListN.{drop}
 use mathlib.Core.Path.{◌≡◌}
 use Prim.Native.Nat.{◌+◌, ◌≤◌}

@@ -1,3 +1,4 @@
+-- `carry::needed` meets its contract.
 use lib.ListN.{length, drop}
 use mathlib.Core.Path.{◌≡◌, ap}
 use native.Mathlib.Omega.{arith}

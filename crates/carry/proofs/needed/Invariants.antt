@@ -1,4 +1,4 @@
--- `carry::needed` meets its contract: the loads counted, and those of what is left, are all the loads.
+-- The loads counted, and those of what is left, are all the loads.
 use lib.ListN.{length, drop}
 use mathlib.Core.Path.{◌≡◌}
 use Prim.Native.Nat.{◌+◌, ◌-◌, ◌≤◌}

@@ -1,3 +1,4 @@
+-- `carry::put_loads` meets its contract.
 use borrow.Author.Rules.{rules}
 use lib.ListN.{length, drop, length-drop}
 use mathlib.Core.Path.{◌≡◌, refl, sym, ap, ◌∙◌}

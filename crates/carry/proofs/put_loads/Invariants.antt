@@ -1,4 +1,4 @@
--- `carry::put_loads` meets its contract: what is laid, and what is still to be laid, is all of it.
+-- What is laid, and what is still to be laid, is all of it.
 use lib.ListN.{length, drop}
 use mathlib.Core.Path.{◌≡◌}
 use mathlib.Core.List.{List}

@@ -1,3 +1,4 @@
+-- `gather::follow` meets its contract.
 use lib.ListN.{length}
 use mathlib.Core.Path.{refl, ◌∙◌}
 use Prim.Native.Nat.{◌+◌, ◌≤◌}

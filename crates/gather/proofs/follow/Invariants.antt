@@ -1,5 +1,4 @@
--- `gather::follow` meets its contract: what follows from the loop's place on, with what is already counted, is what followed from
--- the start.
+-- What follows from the loop's place on, with what is already counted, is what followed from the start.
 use lib.ListN.{length, drop}
 use mathlib.Core.Path.{◌≡◌}
 use Prim.Native.Nat.{◌+◌, ◌-◌, ◌≤◌}

@@ -1,4 +1,5 @@
 -- `gather::with_start` meets its contract: the two stages one behind the other; what waits then is the end of the transport packet.
+use borrow.Author.Rules.{rules}
 use Prim.Native.Nat.{◌+◌, ◌-◌, ◌≤◌}
 use native.Mathlib.Omega.{arith}
 use Rattle.gather.proofs.StartLaws.{begun-small, left-few, with-start}
@@ -13,7 +14,7 @@ small : (u : After-unfinished) → (u.unfinished.result.packets ≤ 1) × (u.unf
 small u =
     let s = start u in
     begun-small s.args.e s.args.gathering.now s.args.output.now s.args.t.now s.args.at s.args.n s.requires.5 s.requires.4 _ _ _ u.lead-front.ensures _ u.unfinished.ensures
-    (λ i. (u.slice_known-1.given i).fits) (λ i. (u.shared_slice_known-1.given i).fits)
+    (search rules) (search rules)
 
 few : (v : After-follow-held) → v.follow-held.result.waiting ≤ 188 - ((start (goal.at.After-follow-held v).After-unfinished).args.at + (start (goal.at.After-follow-held v).After-unfinished).args.n)
 few v =
