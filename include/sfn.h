@@ -1,5 +1,5 @@
-/* sfn.h: Wasukpelon as C and C++ programs see it. Link libsfn.a (-lsfn), which `rt staticlib sfn` makes and
- * `./install` puts in place. What it does is proved on x86-64 and on Arm alike; the archive is for x86-64.
+/* sfn.h: Wasukpelon as C and C++ programs see it. Link libsfn.a (-lsfn), which `tests/library` makes and
+ * `./install` puts in place. What it does is proved; the archive is for x86-64.
  *
  * Answers. Each call but sfn_crc and sfn_packet_length gives a struct by value. Its `refusal` is 0 where the call did
  * its work. Otherwise it is a number of document 01 (each function lists its own in the order in which they are
