@@ -14,16 +14,19 @@ use Rattle.fields.specs.Formats.{unpack, Fit}
 use Rattle.fields.specs.Parts.{number_at, overlay}
 use Rattle.fields.proofs.Cases.{cases}
 use Rattle.fields.proofs.FormatLaws.{unpack-fit}
+use Rattle.std.specs.Prelude.{Result, Ok, Err}
+use Rattle.refusals.specs.Refusals.{number_of}
+use Rattle.refusals.specs.declared.Refusal.{Refusal}
+use Rattle.refusals.proofs.NumberLaws.{number-not-0}
 use Rattle.refusals.specs.Checks.{Check, ◌when◌, holds, number, first}
 use Rattle.packet.specs.Layout.{header, size_of, reserved_type, pad_set}
-use Rattle.packet.specs.Read.{field, header_of, payload_of, reserved_set, read_checks, no_header, read_of}
+use Rattle.packet.specs.Read.{field, header_of, payload_of, reserved_set, read_checks, no_header, read_of, Packet, packet_told}
 use Rattle.packet.specs.Cut.{cut}
 use Rattle.packet.specs.declared.Header.{Header}
-use Rattle.packet.specs.declared.Packet.{Packet}
 use Rattle.packet.proofs.LayoutLaws.{size-least, size-take}
 use Rattle.packet.proofs.CutLaws.{cut_short, cut-bad, cut-good}
 use Rattle.packet.proofs.RoundTrips.{read-shows, read-accepted, read-refused}
-use Rattle.text.specs.Laid.{space, newline, word, laid, appended}
+use Rattle.text.specs.Laid.{space, newline, word, Filled, laid, appended}
 use Rattle.lines.specs.Lines.{fields_line, refused_word, refused_line, line_by, line_of, lines_of}
 use Rattle.text.proofs.LayLaws.{appended-fits, laid-at, laid_next, laid_nil, word-few}
 
@@ -36,6 +39,15 @@ by-refusal p h = rw (ne_eqb p.refusal 0 h)
 pub by-fields : (p : Packet) → p.refusal ≡ 0 → line_by p ≡ fields_line p.header
 unfolding line_by
 by-fields p h = rw (eq-eqb p.refusal 0 h)
+
+-- what reading gave, whose line was laid
+pub told_refused : (p : Result Header Refusal) (e : Refusal) (n : ℕ) (l : List ℕ) (f : Filled) → p ≡ Err e → n ≡ number_of e
+    → f ≡ laid (refused_line n) 0 l → f ≡ laid (line_by (packet_told p)) 0 l
+told_refused p e n l f q m h = rw (q, by-refusal (packet_told (Err e)) (number-not-0 e)) (rw m at h)
+
+pub told_fields : (p : Result Header Refusal) (h : Header) (l : List ℕ) (f : Filled) → p ≡ Ok h
+    → f ≡ laid (fields_line h) 0 l → f ≡ laid (line_by (packet_told p)) 0 l
+told_fields p h l f q e = rw (q, by-fields (packet_told (Ok h)) refl) e
 
 -- ---- how long a line is
 

@@ -2,15 +2,17 @@
 // the lines of the T2-MI packets that it finishes. Where a line has no room nothing of it is laid.
 #![tactic(auto)]
 
-ghost use Rattle.std.specs.Prelude.{◌≡◌, ◌+◌, ◌*◌, ◌≤◌, length};
+ghost use Rattle.std.specs.Prelude.{◌≡◌, nat_eq, ◌+◌, ◌*◌, ◌≤◌, length};
 ghost use Rattle.packet.specs.Cut.{cut};
+ghost use Rattle.packet.specs.Read.{packet_told};
 ghost use Rattle.text.specs.Laid.{word, laid, appended};
 ghost use Rattle.lines.specs.Lines.{head_line, fields_line, refused_line, line_by, lines_of, last_line};
 ghost use Rattle.lines.specs.Pieces.{pieces, kept_of};
 ghost use Rattle.lines.specs.Listing.{start_listing, capped, bit, after_of, roomy, step_of, fed_of};
 
 use gather::{Gathered, Reader};
-use packet::{Header, Packet};
+use packet::Header;
+use refusals::Refusal;
 
 // A listing under way: the reader, the packets that it handed out so far, and its loss marks.
 #[derive(Clone, Copy)]
@@ -68,17 +70,24 @@ fn lay_refused(line: &mut [u8], refusal: u32) -> usize
     lay_word(line, a, refusal as u64, b'\n')
 }
 
+// Lays the line of what reading a packet gave at the front.
+#[tactic(auto, using(crate::proofs::LineLaws::told_refused, crate::proofs::LineLaws::told_fields))]
+fn lay_line(line: &mut [u8], p: Result<Header, Refusal>) -> usize
+    requires { 105 ≤ length line.old }
+    ensures { record { at = result; lines = line.new } ≡ laid (line_by (packet_told p)) 0 line.old }
+{
+    match p {
+        Ok(h) => lay_fields(line, h),
+        Err(refusal) => lay_refused(line, refusal.number()),
+    }
+}
+
 // Appends the line of what reading a packet gave. The line is made aside, so that all of it is laid or nothing.
-pub fn line(lines: &mut [u8], at: usize, p: Packet) -> usize
-    ensures { record { at = result; lines = lines.new } ≡ appended (line_by p) at lines.old }
+pub fn line(lines: &mut [u8], at: usize, p: Result<Header, Refusal>) -> usize
+    ensures { record { at = result; lines = lines.new } ≡ appended (line_by (packet_told p)) at lines.old }
 {
     let mut aside = [0u8; 105];
-    if p.refusal != 0 {
-        let n = lay_refused(&mut aside, p.refusal);
-        return text::append(lines, at, &aside[..n]);
-    }
-    let h = p.header;
-    let n = lay_fields(&mut aside, h);
+    let n = lay_line(&mut aside, p);
     text::append(lines, at, &aside[..n])
 }
 
@@ -100,6 +109,13 @@ fn lay_last(line: &mut [u8], packets: u64, gaps: u64) -> usize
     lay_word(line, c, gaps, b'\n')
 }
 
+// Whether reading a packet found its CRC wrong.
+fn crc_failed(p: Result<Header, Refusal>) -> bool
+    ensures { result ≡ nat_eq (packet_told p).refusal 14 }
+{
+    p == Err(Refusal::CrcWrong)
+}
+
 // Lays the lines of the packets of s, which stand back to back, up to the first that is not whole. Their CRC is judged by
 // reading them: 14 is no line, as packets with a wrong CRC are none of the cut.
 fn lay_lines(lines: &mut [u8], at: usize, s: &[u8]) -> usize
@@ -115,7 +131,7 @@ fn lay_lines(lines: &mut [u8], at: usize, s: &[u8]) -> usize
         }
         let end = i + size;
         let p = packet::read(&s[i..end]);
-        if p.refusal == refusals::CRC_WRONG {
+        if crc_failed(p) {
             return w;
         }
         w = line(lines, w, p);
