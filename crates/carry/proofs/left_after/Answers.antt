@@ -1,11 +1,5 @@
 -- `carry::left_after` meets its contract.
-use borrow.Author.Rules.{rules}
-use lib.ListN.{drop}
-use lib.Seq.{drop-drop}
-use mathlib.Core.Path.{◌≡◌, sym, ap, ◌∙◌}
-use mathlib.Core.List.{List}
-use Prim.Native.Nat.{ℕ, ◌+◌, ◌-◌, ◌<◌}
-use native.Mathlib.Omega.{arith}
+use Rattle.std.proofs.Common.{◌≡◌, ℕ, ◌+◌, ◌-◌, ◌<◌, List, drop, sym, ap, ◌∙◌, arith, drop-drop}
 use Rattle.packet.specs.Layout.{size_of}
 use Rattle.packet.proofs.LayoutLaws.{size-least}
 use Rattle.carry.proofs.ByteLaws.{left-none, left-past, left_in}
@@ -22,30 +16,25 @@ past batch at left size e h =
     ∙ ap (λ (k : ℕ). left_of (left - k) (drop k (drop at batch))) e
     ∙ sym (left-past left (drop at batch) (rw (← e) h))
 
-pub loop-size-smaller : goal.loop-size-smaller
-loop-size-smaller c =
-    let l = c.loop-size in
-    let a = c.args in
-    omega (arith, l.invariant.2, size-least (drop l.at a.batch.now))
-
-pub loop-size-preserved : goal.loop-size-preserved
-loop-size-preserved c =
-    let l = c.loop-size in
-    let a = c.args in
-    let b = a.batch.now in
-    let s = l.invariant.2 in
-    (search rules, search rules, c.own_length-size-in-loop-size.ensures, past b l.at l.left l.size s (omega arith) ∙ l.invariant.3)
-
 pub returns-then-left-eq0 : goal.returns-then-left-eq0
 returns-then-left-eq0 c =
-    let l = c.loop-size in
-    let a = c.args in
-    sym (sym l.invariant.3 ∙ ap (λ (k : ℕ). left_of k (drop l.at a.batch.now)) c.if-left-eq0.true ∙ left-none (drop l.at a.batch.now))
+    let l = c.loop-n in
+    sym (sym l.invariant.1 ∙ ap (λ (k : ℕ). left_of k (drop l.at c.args.batch.now)) c.if-left-eq0.true ∙ left-none (drop l.at c.args.batch.now))
 
-pub returns : goal.returns
-returns c =
-    let l = c.loop-size in
-    let a = c.args in
-    let b = a.batch.now in
-    let s = l.invariant.2 in
-    sym (sym l.invariant.3 ∙ left_in l.left (drop l.at b) (some l.left c.if-left-eq0.false) (rw (← s) (search rules)) ∙ ap (λ (k : ℕ). k - l.left) (sym s))
+pub returns-then-left-size : goal.returns-then-left-size
+returns-then-left-size c =
+    let l = c.loop-n in
+    let b = c.args.batch.now in
+    let s = c.own_length-size.ensures in
+    sym (sym l.invariant.1 ∙ left_in (c.args.n - l.at) (drop l.at b) (some _ c.if-left-eq0.false) (rw (← s) c.if-left-size.true) ∙ ap (λ (k : ℕ). k - (c.args.n - l.at)) (sym s))
+
+pub loop-n-smaller : goal.loop-n-smaller
+loop-n-smaller c = omega (arith, c.own_length-size.ensures, size-least (drop c.loop-n.at c.args.batch.now))
+
+pub loop-n-preserved : goal.loop-n-preserved
+loop-n-preserved c =
+    let l = c.loop-n in
+    let b = c.args.batch.now in
+    let size : ℕ = c.own_length-size.result in
+    let k : c.args.n - (l.at + size) ≡ c.args.n - l.at - size = omega arith in
+    (omega arith, ap (λ (n : ℕ). left_of n (drop (l.at + size) b)) k ∙ past b l.at (c.args.n - l.at) size c.own_length-size.ensures (omega arith) ∙ l.invariant.1)
