@@ -82,20 +82,14 @@ fn has_start(r: usize, rest: usize) -> bool
 
 // How many bytes are left of the packet that n bytes of the batch end in, from a packet's first byte on.
 fn left_after(batch: &[u8], n: usize) -> usize
+    requires { n ≤ 183 }
     ensures { result ≡ left_of n batch.now }
 {
-    let mut at = 0;
-    loop {
-        let size = packet::own_length(batch, at);
-        let left = n - at;
-        if left == 0 {
-            return 0;
-        }
-        if left <= size {
-            return size - left;
-        }
-        at += size;
+    let mut end = 0;
+    while end < n {
+        end += packet::own_length(batch, end);
     }
+    end - n
 }
 
 impl<'a> Pieces<'a> {

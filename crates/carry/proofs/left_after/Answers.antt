@@ -1,40 +1,63 @@
 -- `carry::left_after` meets its contract.
-use Rattle.std.proofs.Common.{◌≡◌, ℕ, ◌+◌, ◌-◌, ◌<◌, List, drop, sym, ap, ◌∙◌, arith, drop-drop}
+use Rattle.std.proofs.Common.{◌≡◌, ℕ, ◌+◌, ◌-◌, ◌<◌, ◌≤◌, List, drop, sym, ap, ◌∙◌, arith, rules, drop-drop}
+use borrow.Author.Tests.{leb-true, leb-false}
+use lib.Dec.{leb}
+use Rattle.fields.proofs.Cases.{cases}
+use Rattle.fields.proofs.NumberLaws.{bytes_drop}
 use Rattle.packet.specs.Layout.{size_of}
-use Rattle.packet.proofs.LayoutLaws.{size-least}
+use Rattle.packet.proofs.LayoutLaws.{size-least, size-most}
 use Rattle.carry.proofs.ByteLaws.{left-none, left-past, left_in}
 use Rattle.carry.specs.OnBytes.{left_of}
 use Rattle.carry.proofs.left_after.Goals as goal
 
-some : (n : ℕ) → (n ≡ 0 → ⊥) → 0 < n
-some n h = omega arith
+-- one packet on, from a place before n
+module _ (b : List ℕ) (n end size : ℕ) (e : size ≡ size_of (drop end b)) (h : end < n) (i : left_of (n - end) (drop end b) ≡ left_of n b) where
+  -- it ends at n or behind it
+  over : n ≤ end + size → end + size - n ≡ left_of n b
+  over k =
+      let m : end + size - n ≡ size_of (drop end b) - (n - end) = omega arith in
+      m ∙ sym (left_in (n - end) (drop end b) (omega arith) (omega arith)) ∙ i
 
--- a whole packet goes
-past : (batch : List ℕ) (at left size : ℕ) → size ≡ size_of (drop at batch) → size < left → left_of (left - size) (drop (at + size) batch) ≡ left_of left (drop at batch)
-past batch at left size e h =
-    ap (left_of (left - size)) (sym (drop-drop size at batch))
-    ∙ ap (λ (k : ℕ). left_of (left - k) (drop k (drop at batch))) e
-    ∙ sym (left-past left (drop at batch) (rw (← e) h))
+  -- it ends before n
+  past : end + size < n → left_of (n - (end + size)) (drop (end + size) b) ≡ left_of n b
+  past k =
+      let m : n - (end + size) ≡ n - end - size = omega arith in
+      ap (λ (j : ℕ). left_of j (drop (end + size) b)) m
+      ∙ ap (left_of (n - end - size)) (sym (drop-drop size end b))
+      ∙ ap (λ (j : ℕ). left_of (n - end - j) (drop j (drop end b))) e
+      ∙ sym (left-past (n - end) (drop end b) (omega arith))
+      ∙ i
 
-pub returns-then-left-eq0 : goal.returns-then-left-eq0
-returns-then-left-eq0 c =
-    let l = c.loop-n in
-    sym (sym l.invariant.1 ∙ ap (λ (k : ℕ). left_of k (drop l.at c.args.batch.now)) c.if-left-eq0.true ∙ left-none (drop l.at c.args.batch.now))
+  -- or just there
+  upto : end + size ≤ n → left_of (n - (end + size)) (drop (end + size) b) ≡ left_of n b
+  upto k =
+      cases (leb n (end + size))
+      (λ t.
+      let m : n - (end + size) ≡ 0 = omega (arith, k, leb-true _ _ t) in
+      ap (λ (j : ℕ). left_of j (drop (end + size) b)) m ∙ left-none (drop (end + size) b) ∙ (let z : 0 ≡ end + size - n = omega arith in z) ∙ over (leb-true _ _ t))
+      (λ t. past (leb-false _ _ t))
 
-pub returns-then-left-size : goal.returns-then-left-size
-returns-then-left-size c =
-    let l = c.loop-n in
+pub overflow_add-end : goal.overflow_add-end
+overflow_add-end c =
     let b = c.args.batch.now in
-    let s = c.own_length-size.ensures in
-    sym (sym l.invariant.1 ∙ left_in (c.args.n - l.at) (drop l.at b) (some _ c.if-left-eq0.false) (rw (← s) c.if-left-size.true) ∙ ap (λ (k : ℕ). k - (c.args.n - l.at)) (sym s))
+    omega (arith, c.own_length-end.ensures, size-most (drop c.loop-end.end b) (bytes_drop c.loop-end.end b (search rules)), c.requires)
 
-pub loop-n-smaller : goal.loop-n-smaller
-loop-n-smaller c = omega (arith, c.own_length-size.ensures, size-least (drop c.loop-n.at c.args.batch.now))
-
-pub loop-n-preserved : goal.loop-n-preserved
-loop-n-preserved c =
-    let l = c.loop-n in
+pub loop-end-init : goal.loop-end-init
+loop-end-init c =
     let b = c.args.batch.now in
-    let size : ℕ = c.own_length-size.result in
-    let k : c.args.n - (l.at + size) ≡ c.args.n - l.at - size = omega arith in
-    (omega arith, ap (λ (n : ℕ). left_of n (drop (l.at + size) b)) k ∙ past b l.at (c.args.n - l.at) size c.own_length-size.ensures (omega arith) ∙ l.invariant.1)
+    let n = c.args.n in
+    (λ h. let z : n - 0 ≡ n = omega arith in ap (λ (k : ℕ). left_of k b) z, λ h. let z : n ≡ 0 = omega arith in let y : 0 - n ≡ 0 = omega arith in y ∙ sym (left-none b) ∙ ap (λ (k : ℕ). left_of k b) (sym z))
+
+pub loop-end-smaller : goal.loop-end-smaller
+loop-end-smaller c = omega (arith, c.own_length-end.ensures, size-least (drop c.loop-end.end c.args.batch.now))
+
+pub loop-end-preserved : goal.loop-end-preserved
+loop-end-preserved c =
+    let l = c.loop-end in
+    let b = c.args.batch.now in
+    let h : l.end < c.args.n = c.loop-end-test.true in
+    let i = l.invariant.0 (omega arith) in
+    (upto b c.args.n l.end _ c.own_length-end.ensures h i, over b c.args.n l.end _ c.own_length-end.ensures h i)
+
+pub returns : goal.returns
+returns c = c.loop-end.invariant.1 (omega arith)
