@@ -4,11 +4,12 @@
 ghost use Rattle.std.specs.Prelude.{◌≡◌, ◌≤◌, length};
 ghost use Rattle.fields.specs.Formats.{too_wide};
 ghost use Rattle.refusals.specs.Checks.{first};
+ghost use Rattle.refusals.specs.Answers.{code, bytes_of};
 ghost use Rattle.stamp.specs.Layout.{format, units_of, is_null, kind_of, second_reached};
-ghost use Rattle.stamp.specs.Read.{stamp_of, reserved_set, read_checks, read_of};
+ghost use Rattle.stamp.specs.Read.{stamp_of, reserved_set, read_checks, read_of, stamp_told};
 ghost use Rattle.stamp.specs.Write.{fields_of, write_checks, write_of};
 
-use refusals::Written;
+use refusals::Refusal;
 
 // Subsecond units, whose length goes by the bandwidth code. A type of its own: no function adds it to another clock's time.
 #[derive(Clone, Copy)]
@@ -21,13 +22,6 @@ pub struct Stamp {
     pub seconds: u64,
     pub subseconds: Subseconds,
     pub utco: u16,
-}
-
-// What reading a payload gives: with a refusal, a stamp of zeros.
-#[derive(Clone, Copy)]
-pub struct StampRead {
-    pub refusal: u32,
-    pub stamp: Stamp,
 }
 
 // What a stamp says of the time of emission: nothing, the place within any second, or the second too.
@@ -117,44 +111,32 @@ fn reserved_set(payload: &[u8]) -> bool
     front / 0x1000_0000_0000 % 16 != 0
 }
 
-// The number of the refusal of reading, or 0.
-fn read_refusal(payload: &[u8]) -> u32
-    ensures { result ≡ first (read_checks payload.now) }
+// Refuses what is no timestamp payload.
+fn check_read(payload: &[u8]) -> Result<(), Refusal>
+    ensures { code result ≡ first (read_checks payload.now) }
 {
     if payload.len() != 11 {
-        return refusals::PAYLOAD_SIZE_WRONG;
+        return Err(Refusal::PayloadSizeWrong);
     }
     if reserved_set(payload) {
-        return refusals::RESERVED_BIT_SET;
+        return Err(Refusal::ReservedBitSet);
     }
     let stamp = stamp_of(payload);
     if 5 < stamp.bw {
-        return refusals::BANDWIDTH_CODE_OVER_5;
+        return Err(Refusal::BandwidthCodeOver5);
     }
     if second_reached(stamp) {
-        return refusals::SUBSECONDS_OVER_A_SECOND;
+        return Err(Refusal::SubsecondsOverASecond);
     }
-    0
+    Ok(())
 }
 
 // Reads a timestamp payload.
-pub fn read(payload: &[u8]) -> StampRead
-    ensures { result ≡ read_of payload.now }
+pub fn read(payload: &[u8]) -> Result<Stamp, Refusal>
+    ensures { stamp_told result ≡ read_of payload.now }
 {
-    let refusal = read_refusal(payload);
-    if refusal != 0 {
-        return StampRead {
-            refusal,
-            stamp: Stamp {
-                bw: 0,
-                seconds: 0,
-                subseconds: Subseconds(0),
-                utco: 0,
-            },
-        };
-    }
-    let stamp = stamp_of(payload);
-    StampRead { refusal: 0, stamp }
+    check_read(payload)?;
+    Ok(stamp_of(payload))
 }
 
 // Whether seconds, subseconds or utco is too wide for its bits. A bandwidth code up to 5 is not.
@@ -171,39 +153,33 @@ fn field_too_wide(stamp: Stamp) -> bool
     0x1fff < stamp.utco
 }
 
-// The number of the refusal of writing, or 0.
-fn write_refusal(stamp: Stamp, room: usize) -> u32
-    ensures { result ≡ first (write_checks stamp room) }
+// Refuses a stamp that no payload holds, and too little room.
+fn check_write(stamp: Stamp, room: usize) -> Result<(), Refusal>
+    ensures { code result ≡ first (write_checks stamp room) }
 {
     if 5 < stamp.bw {
-        return refusals::BANDWIDTH_CODE_OVER_5;
+        return Err(Refusal::BandwidthCodeOver5);
     }
     if field_too_wide(stamp) {
-        return refusals::TOO_WIDE_OR_UNFIT_STATE;
+        return Err(Refusal::TooWideOrUnfitState);
     }
     if second_reached(stamp) {
-        return refusals::SUBSECONDS_OVER_A_SECOND;
+        return Err(Refusal::SubsecondsOverASecond);
     }
     if room < 11 {
-        return refusals::OUTPUT_SHORT;
+        return Err(Refusal::OutputShort);
     }
-    0
+    Ok(())
 }
 
-// Writes a timestamp payload to the front of out, the reserved bits zero.
-pub fn write(stamp: Stamp, out: &mut [u8]) -> Written
-    ensures { record { answer = result; out = out.new } ≡ write_of stamp out.old }
+// Writes a timestamp payload to the front of out, the reserved bits zero; gives how many bytes it has.
+pub fn write(stamp: Stamp, out: &mut [u8]) -> Result<u32, Refusal>
+    ensures { record { answer = bytes_of result; out = out.new } ≡ write_of stamp out.old }
 {
-    let refusal = write_refusal(stamp, out.len());
-    if refusal != 0 {
-        return Written { refusal, bytes: 0 };
-    }
+    check_write(stamp, out.len())?;
     let front = stamp.bw as u64 * 0x100_0000_0000 + stamp.seconds;
     let back = stamp.subseconds.0 as u64 * 0x2000 + stamp.utco as u64;
     fields::store_at(out, 0, 6, front);
     fields::store_at(out, 6, 5, back);
-    Written {
-        refusal: 0,
-        bytes: 11,
-    }
+    Ok(11)
 }
