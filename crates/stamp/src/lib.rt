@@ -12,11 +12,11 @@ ghost use Rattle.stamp.specs.Write.{fields_of, write_checks, write_of};
 use refusals::Refusal;
 
 // Subsecond units, whose length goes by the bandwidth code. A type of its own: no function adds it to another clock's time.
-#[derive(Clone, Copy)]
+#[derive(Clone, Copy, Debug, PartialEq, Eq)]
 pub struct Subseconds(pub u32);
 
 // The fields of a stamp, in their order: bw, seconds_since_2000, subseconds, utco.
-#[derive(Clone, Copy)]
+#[derive(Clone, Copy, Debug, PartialEq, Eq)]
 pub struct Stamp {
     pub bw: u8,
     pub seconds: u64,
@@ -24,12 +24,12 @@ pub struct Stamp {
     pub utco: u16,
 }
 
-// What a stamp says of the time of emission: nothing, the place within any second, or the second too.
-#[derive(Clone, Copy)]
+// What a stamp says of the time of emission: the second too, the place within any second, or nothing.
+#[derive(Clone, Copy, Debug, PartialEq, Eq)]
 pub enum Kind {
-    Null,
-    Relative,
-    Absolute,
+    Absolute = 0,
+    Relative = 1,
+    Null = 2,
 }
 
 // Subsecond units in a microsecond, by bandwidth code.
@@ -39,24 +39,14 @@ const UNITS: [u32; 6] = [131, 40, 48, 56, 64, 80];
 pub fn units(bw: u8) -> u32
     ensures { result ≡ units_of bw }
 {
-    let i = bw as usize;
-    if 5 < i {
-        return 0;
-    }
-    UNITS[i]
+    UNITS.get(bw as usize).copied().unwrap_or(0)
 }
 
 // Whether seconds, subseconds and utco are all ones.
 fn is_null(stamp: Stamp) -> bool
     ensures { result ≡ is_null stamp }
 {
-    if stamp.seconds != 0xff_ffff_ffff {
-        return false;
-    }
-    if stamp.subseconds.0 != 0x7ff_ffff {
-        return false;
-    }
-    stamp.utco == 0x1fff
+    stamp.seconds == 0xff_ffff_ffff && stamp.subseconds.0 == 0x7ff_ffff && stamp.utco == 0x1fff
 }
 
 // Which of the three kinds a stamp is.
@@ -76,11 +66,7 @@ pub fn kind_of(stamp: Stamp) -> Kind
 fn second_reached(stamp: Stamp) -> bool
     ensures { result ≡ second_reached stamp }
 {
-    let second = units(stamp.bw) * 1_000_000;
-    if stamp.subseconds.0 < second {
-        return false;
-    }
-    !is_null(stamp)
+    units(stamp.bw) * 1_000_000 <= stamp.subseconds.0 && !is_null(stamp)
 }
 
 // The fields of a payload. Its 88 bits are two numbers: the last 40 hold subseconds and utco.
@@ -144,13 +130,7 @@ fn field_too_wide(stamp: Stamp) -> bool
     requires { stamp.bw ≤ 5 }
     ensures { result ≡ too_wide format (fields_of stamp) }
 {
-    if 0xff_ffff_ffff < stamp.seconds {
-        return true;
-    }
-    if 0x7ff_ffff < stamp.subseconds.0 {
-        return true;
-    }
-    0x1fff < stamp.utco
+    0xff_ffff_ffff < stamp.seconds || 0x7ff_ffff < stamp.subseconds.0 || 0x1fff < stamp.utco
 }
 
 // Refuses a stamp that no payload holds, and too little room.

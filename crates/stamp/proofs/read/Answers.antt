@@ -1,5 +1,5 @@
 -- `stamp::read` meets its contract: a refusal with zeros, or the payload's stamp.
-use mathlib.Core.Path.{◌≡◌, sym, ◌∙◌}
+use mathlib.Core.Path.{sym}
 use Rattle.refusals.proofs.AnswerLaws.{answer-exit}
 use Rattle.stamp.proofs.FieldLaws.{readable}
 use Rattle.stamp.proofs.RoundTrips.{read-accepted}
