@@ -20,7 +20,7 @@ use Rattle.functions.specs.Read as function
 use Rattle.functions.specs.Write as function_writing
 use Rattle.functions.specs.declared.Function.{Function}
 use Rattle.functions.specs.declared.Function.TheVariants.{TimeOffset}
-use Rattle.functions.specs.declared.FunctionRead.{FunctionRead}
+use Rattle.functions.specs.Read.{FunctionRead}
 use Rattle.addressing.specs.Data.{house}
 use Rattle.addressing.specs.Payload as addressing
 use Rattle.addressing.specs.Walk.{walk_checks}

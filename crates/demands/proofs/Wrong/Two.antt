@@ -31,7 +31,7 @@ use Rattle.functions.specs.Read as function
 use Rattle.functions.specs.Write as function_writing
 use Rattle.functions.specs.declared.Function.{Function}
 use Rattle.functions.specs.declared.Function.TheVariants.{TimeOffset, FrequencyOffset}
-use Rattle.functions.specs.declared.FunctionRead.{FunctionRead}
+use Rattle.functions.specs.Read.{FunctionRead}
 use Rattle.addressing.specs.Data.{entries_by, entries_in, functions_of, fault_in, fault_of}
 use Rattle.addressing.specs.Payload as addressing
 use Rattle.addressing.specs.Walk as walking

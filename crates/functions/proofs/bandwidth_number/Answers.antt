@@ -6,4 +6,4 @@ use Rattle.functions.proofs.bandwidth_number.Goals as goal
 
 pub returns : goal.returns
 unfolding pack
-returns c = rw (byte-bit c.args.wait) (omega arith)
+returns c = omega (arith, byte-bit c.args.wait)

@@ -2,12 +2,13 @@
 -- code divides by the weights that the formats give their fields.
 use borrow.Author.Rules.{rules}
 use lib.ListN.{length, get_or-eq_default}
-use mathlib.Core.Path.{◌≡◌, sym, ap, ◌∙◌}
+use mathlib.Core.Path.{◌≡◌, refl, sym, ap, ◌∙◌}
 use mathlib.Core.List.{List}
 use Prim.Native.Nat.{ℕ, ◌*◌, ◌/◌, ◌%◌, ◌^◌, ◌≤◌, ◌<◌}
 use native.Mathlib.Nat.{div-one}
 use native.Mathlib.Omega.{arith}
 use mir.Syntax.{w16, w32}
+use mir.Val.{to_z}
 use mir.ValLaws.{to_z-of_z}
 use Rattle.fields.specs.Formats.{unpack}
 use Rattle.fields.specs.Numbers.{number}
@@ -52,12 +53,18 @@ signed_24-requires c = below (goal.at.signed_24-requires c).After-number_at-v 3 
 pub overflow_cast-result : goal.overflow_cast-result
 overflow_cast-result c = record { fits = below (goal.at.overflow_cast-result c).After-number_at-v 2 (ap size_of c.in-2.is) (omega arith) }
 
+-- what the library makes of 16 bits
+as_signed : (n : ℕ) → to_z w16 n ≡ signed 16 n
+unfolding signed
+as_signed n = refl
+
 pub returns-in-0 : goal.returns-in-0
 unfolding function_of
 returns-in-0 c =
     ap TimeOffset
-    (to_z-of_z w16 c.signed_16.result (record { sfits = c.signed_16.type_inv })
-    ∙ c.signed_16.ensures
+    (to_z-of_z w16 c.cast_signed.result (record { sfits = c.cast_signed.type_inv })
+    ∙ c.cast_signed.ensures
+    ∙ as_signed c.number_at-v.result
     ∙ ap (signed 16) (value (goal.at.returns-in-0 c).After-number_at-v 2 (ap size_of c.in-0.is) (omega arith)))
     ∙ sym (ap (λ (t : ℕ). function_of t c.args.body.now) c.in-0.is)
 

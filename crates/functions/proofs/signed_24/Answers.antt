@@ -9,6 +9,6 @@ use Rattle.functions.proofs.signed_24.Goals as goal
 pub returns-then-v-lt8388608 : goal.returns-then-v-lt8388608
 returns-then-v-lt8388608 c = top-clear w32 24 c.args.v (omega arith) c.if-v-lt8388608.true
 
-pub returns : goal.returns
-returns c =
+pub returns-else-v-lt8388608 : goal.returns-else-v-lt8388608
+returns-else-v-lt8388608 c =
     to_z-of_z w32 _ (top-set-fits w32 24 c.args.v (omega arith) (omega arith) c.requires c.if-v-lt8388608.false) ∙ top_set w32 24 c.args.v (omega arith) c.requires c.if-v-lt8388608.false

@@ -1,4 +1,4 @@
--- `functions::read_refusal` meets its contract: a chain of early returns in the order of the definition's list.
+-- `functions::check_read` meets its contract: a chain of early returns in the order of the definition's list.
 use lib.ListN.{get_or}
 use mathlib.Core.Path.{◌≡◌, sym, ap, ◌∙◌}
 use mathlib.Core.List.{List}
@@ -6,14 +6,14 @@ use Rattle.refusals.specs.Checks.{Check}
 use Rattle.refusals.proofs.CheckLaws.{Clear, first-at, first-none}
 use Rattle.functions.specs.Tags.{bandwidth_reserved}
 use Rattle.functions.specs.Read.{read_checks}
-use Rattle.functions.proofs.read_refusal.Goals as goal
-use Rattle.functions.proofs.read_refusal.Goals.{After-bandwidth_reserved, Else-bandwidth_reserved, Else-body_long, Else-body_wrong, Start}
+use Rattle.functions.proofs.check_read.Goals as goal
+use Rattle.functions.proofs.check_read.Goals.{After-bandwidth_reserved, Else-bandwidth_reserved, Else-body_long, Else-body_wrong, Start}
 
 abbrev checks : Start → List Check
 checks c = read_checks c.args.tag c.args.body.now
 
 judged : (c : After-bandwidth_reserved) → c.bandwidth_reserved.result ≡ bandwidth_reserved c.args.tag (get_or c.args.body.now 0 0)
-judged c = c.bandwidth_reserved.ensures ∙ ap (bandwidth_reserved c.args.tag) c.byte_at-b.ensures
+judged c = c.bandwidth_reserved.ensures ∙ ap (bandwidth_reserved c.args.tag) c.byte_at.ensures
 
 past1 : (c : Else-body_long) → Clear 1 (checks (goal.at.Else-body_long c).Start)
 unfolding read_checks

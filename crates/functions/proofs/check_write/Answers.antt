@@ -1,4 +1,4 @@
--- `functions::write_refusal` meets its contract: a chain of early returns in the order of the definition's list.
+-- `functions::check_write` meets its contract: a chain of early returns in the order of the definition's list.
 use borrow.Author.Tests.{lt-ltb, le-ltb}
 use lib.ListN.{length}
 use mathlib.Core.Path.{◌≡◌, sym, ap, ◌∙◌}
@@ -8,8 +8,8 @@ use Rattle.refusals.proofs.CheckLaws.{Clear, first-at, first-none}
 use Rattle.functions.specs.Tags.{body_long}
 use Rattle.functions.specs.Function.{body_of}
 use Rattle.functions.specs.Write.{write_checks}
-use Rattle.functions.proofs.write_refusal.Goals as goal
-use Rattle.functions.proofs.write_refusal.Goals.{After-body_long, Else-body_long, Else-is_reserved, Else-is_unfit, Else-room-size, Start}
+use Rattle.functions.proofs.check_write.Goals as goal
+use Rattle.functions.proofs.check_write.Goals.{After-body_long, Else-body_long, Else-is_reserved, Else-is_unfit, Else-room-size, Start}
 
 abbrev checks : Start → List Check
 checks c = write_checks c.args.f c.args.bytes.now c.args.room
