@@ -43,6 +43,7 @@ const ENABLE: u8 = 5;
 const BANDWIDTH: u8 = 6;
 
 // Whether a body of n bytes is too long for function_length, which counts the tag and length bytes too.
+#[tactic(auto, unfolding(crate::specs::Tags::body_long))]
 fn body_long(n: usize) -> bool
     ensures { result ≡ body_long n }
 {
@@ -62,6 +63,7 @@ pub fn body_wrong(tag: u8, n: usize) -> bool
 }
 
 // Whether a bandwidth value is reserved: 1 to 127.
+#[tactic(auto, unfolding(crate::specs::Tags::value_reserved))]
 fn value_reserved(v: u8) -> bool
     ensures { result ≡ value_reserved v }
 {
@@ -69,6 +71,7 @@ fn value_reserved(v: u8) -> bool
 }
 
 // Whether a bandwidth function's value is reserved. It stands in the top seven bits of the body's first byte.
+#[tactic(auto, unfolding(crate::specs::Tags::bandwidth_reserved, crate::specs::Tags::value_reserved, fields::specs::Formats::unpack))]
 pub fn bandwidth_reserved(tag: u8, first: u8) -> bool
     ensures { result ≡ bandwidth_reserved tag first }
 {
@@ -76,6 +79,7 @@ pub fn bandwidth_reserved(tag: u8, first: u8) -> bool
 }
 
 // The number that 24 bits stand for in two's complement.
+#[tactic(auto, unfolding(fields::specs::Signed::signed))]
 fn signed_24(v: u32) -> i32
     requires { v < 2 ^ 24 }
     ensures { result ≡ signed 24 v }
@@ -121,6 +125,7 @@ fn function_of(tag: u8, body: &[u8]) -> Function
 }
 
 // Refuses a body that its tag does not have.
+#[tactic(auto, unfolding(crate::specs::Read::read_checks))]
 fn check_read(tag: u8, body: &[u8]) -> Result<(), Refusal>
     ensures { code result ≡ first (read_checks tag body.now) }
 {
@@ -160,6 +165,7 @@ fn body_size(f: Function, bytes: &[u8]) -> usize
 
 // Whether a value is too wide for its bits, or a passed-through function has a tag of the table. A time offset and a
 // power have the bits of the types that hold them.
+#[tactic(auto, unfolding(crate::specs::Write::unfit, fields::specs::Formats::too_wide))]
 fn is_unfit(f: Function) -> bool
     ensures { result ≡ unfit f }
 {
@@ -176,6 +182,7 @@ fn is_unfit(f: Function) -> bool
 }
 
 // Whether a bandwidth is reserved.
+#[tactic(auto, unfolding(crate::specs::Write::reserved))]
 fn is_reserved(f: Function) -> bool
     ensures { result ≡ reserved f }
 {
@@ -186,6 +193,7 @@ fn is_reserved(f: Function) -> bool
 }
 
 // Refuses a function that no body holds, and too little room.
+#[tactic(auto, unfolding(crate::specs::Write::write_checks))]
 fn check_write(f: Function, bytes: &[u8], room: usize) -> Result<(), Refusal>
     ensures { code result ≡ first (write_checks f bytes.now room) }
 {
