@@ -51,6 +51,7 @@ fn body_long(n: usize) -> bool
 }
 
 // Whether a known tag comes with a body of the wrong length, of n bytes.
+#[tactic(auto, unfolding(crate::specs::Tags::body_wrong))]
 pub fn body_wrong(tag: u8, n: usize) -> bool
     ensures { result ≡ body_wrong tag n }
 {
@@ -92,6 +93,7 @@ fn signed_24(v: u32) -> i32
 }
 
 // The 24 bits that stand for a number in two's complement.
+#[tactic(auto, unfolding(fields::specs::Signed::unsigned))]
 fn unsigned_24(z: i32) -> u64
     requires { InSigned 24 z }
     ensures { result ≡ unsigned 24 z }
@@ -150,6 +152,7 @@ pub fn function_read(tag: u8, body: &[u8]) -> Result<Function, Refusal>
 }
 
 // The bytes of a function's body.
+#[tactic(auto, using(crate::proofs::BodyLaws::sizes), unfolding(crate::specs::Function::body_of))]
 fn body_size(f: Function, bytes: &[u8]) -> usize
     ensures { result ≡ length (body_of f bytes.now) }
 {
@@ -170,14 +173,11 @@ fn is_unfit(f: Function) -> bool
     ensures { result ≡ unfit f }
 {
     match f {
-        Function::TimeOffset(_z) => false,
         Function::FrequencyOffset(z) => fields::outside(0x80_0000, z),
-        Function::Power(_p) => false,
         Function::Cell { reserved, .. } => 127 < reserved,
         Function::Bandwidth { value, .. } => 127 < value,
         Function::Passed(tag) => tag <= BANDWIDTH,
-        Function::Private => false,
-        Function::Enable => false,
+        _ => false,
     }
 }
 
@@ -186,10 +186,7 @@ fn is_unfit(f: Function) -> bool
 fn is_reserved(f: Function) -> bool
     ensures { result ≡ reserved f }
 {
-    match f {
-        Function::Bandwidth { value, .. } => value_reserved(value),
-        _ => false,
-    }
+    matches!(f, Function::Bandwidth { value, .. } if value_reserved(value))
 }
 
 // Refuses a function that no body holds, and too little room.
@@ -214,6 +211,7 @@ fn check_write(f: Function, bytes: &[u8], room: usize) -> Result<(), Refusal>
 }
 
 // A cell function's fields as one number.
+#[tactic(auto, unfolding(fields::specs::Formats::pack))]
 fn cell_number(id: u16, wait: bool, reserved: u8) -> u64
     ensures { result ≡ pack cell (cell_fields id wait reserved) }
 {
@@ -221,6 +219,7 @@ fn cell_number(id: u16, wait: bool, reserved: u8) -> u64
 }
 
 // A bandwidth function's fields as one number.
+#[tactic(auto, unfolding(fields::specs::Formats::pack))]
 fn bandwidth_number(value: u8, wait: bool) -> u64
     ensures { result ≡ pack bandwidth (bandwidth_fields value wait) }
 {
