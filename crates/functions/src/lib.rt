@@ -102,6 +102,7 @@ fn unsigned_24(z: i32) -> u64
 }
 
 // The function of a tag and a body of its length.
+#[tactic(auto, unfolding(crate::specs::Function::function_of))]
 fn function_of(tag: u8, body: &[u8]) -> Function
     requires { body_wrong tag (length body.now) ≡ false }
     ensures { result ≡ function_of tag body.now }

@@ -1,7 +1,7 @@
 -- `functions::function_of` meets its contract: in each arm the tag says how long the body is, so that its number fits; the
 -- code divides by the weights that the formats give their fields.
 use borrow.Author.Rules.{rules}
-use lib.ListN.{length, get_or-eq_default}
+use lib.ListN.{length}
 use mathlib.Core.Path.{◌≡◌, refl, sym, ap, ◌∙◌}
 use mathlib.Core.List.{List}
 use Prim.Native.Nat.{ℕ, ◌*◌, ◌/◌, ◌%◌, ◌^◌, ◌≤◌, ◌<◌}
@@ -16,8 +16,8 @@ use Rattle.fields.specs.Signed.{signed}
 use Rattle.functions.proofs.BodyLaws.{number_small, number-whole}
 use Rattle.functions.proofs.KindLaws.{sized}
 use Rattle.functions.specs.Tags.{exactly, size_of, cell, bandwidth}
-use Rattle.functions.specs.Function.{field, is_set, known, function_of}
-use Rattle.functions.specs.declared.Function.TheVariants.{TimeOffset, FrequencyOffset, Power, Cell, Bandwidth, Passed}
+use Rattle.functions.specs.Function.{field, is_set, function_of}
+use Rattle.functions.specs.declared.Function.TheVariants.{TimeOffset, FrequencyOffset, Power, Cell, Bandwidth}
 use Rattle.functions.proofs.function_of.Goals as goal
 use Rattle.functions.proofs.function_of.Goals.{After-number_at-v}
 
@@ -83,30 +83,14 @@ returns-in-2 c =
     ap Power (value (goal.at.returns-in-2 c).After-number_at-v 2 (ap size_of c.in-2.is) (omega arith))
     ∙ sym (ap (λ (t : ℕ). function_of t c.args.body.now) c.in-2.is)
 
-pub returns-in-3 : goal.returns-in-3
-unfolding function_of
-returns-in-3 c =
-    sym (ap (λ (t : ℕ). function_of t c.args.body.now) c.in-3.is)
-
 pub returns-in-4 : goal.returns-in-4
 unfolding function_of
 returns-in-4 c =
     rw (value (goal.at.returns-in-4 c).After-number_at-v 3 (ap size_of c.in-4.is) (omega arith))
     (cell-read c.args.body.now ∙ sym (ap (λ (t : ℕ). function_of t c.args.body.now) c.in-4.is))
 
-pub returns-in-5 : goal.returns-in-5
-unfolding function_of
-returns-in-5 c =
-    sym (ap (λ (t : ℕ). function_of t c.args.body.now) c.in-5.is)
-
 pub returns-in-6 : goal.returns-in-6
 unfolding function_of
 returns-in-6 c =
     rw (value (goal.at.returns-in-6 c).After-number_at-v 1 (ap size_of c.in-6.is) (omega arith))
     (bandwidth-read c.args.body.now ∙ sym (ap (λ (t : ℕ). function_of t c.args.body.now) c.in-6.is))
-
-pub returns-in_default : goal.returns-in_default
-unfolding function_of
-returns-in_default c =
-    let h : 7 ≤ c.args.tag = omega arith in
-    sym (get_or-eq_default (known c.args.body.now) (Passed c.args.tag) h)
