@@ -43,6 +43,7 @@ pub fn units(bw: u8) -> u32
 }
 
 // Whether seconds, subseconds and utco are all ones.
+#[tactic(auto, unfolding(crate::specs::Layout::is_null))]
 fn is_null(stamp: Stamp) -> bool
     ensures { result ≡ is_null stamp }
 {
@@ -50,6 +51,7 @@ fn is_null(stamp: Stamp) -> bool
 }
 
 // Which of the three kinds a stamp is.
+#[tactic(auto, unfolding(crate::specs::Layout::kind_of))]
 pub fn kind_of(stamp: Stamp) -> Kind
     ensures { result ≡ kind_of stamp }
 {
@@ -63,6 +65,7 @@ pub fn kind_of(stamp: Stamp) -> Kind
 }
 
 // Whether the subseconds reach a whole second, as only a null stamp's may.
+#[tactic(auto, unfolding(crate::specs::Layout::second_reached))]
 fn second_reached(stamp: Stamp) -> bool
     ensures { result ≡ second_reached stamp }
 {
@@ -98,6 +101,7 @@ fn reserved_set(payload: &[u8]) -> bool
 }
 
 // Refuses what is no timestamp payload.
+#[tactic(auto, unfolding(crate::specs::Read::read_checks))]
 fn check_read(payload: &[u8]) -> Result<(), Refusal>
     ensures { code result ≡ first (read_checks payload.now) }
 {
@@ -126,6 +130,7 @@ pub fn read(payload: &[u8]) -> Result<Stamp, Refusal>
 }
 
 // Whether seconds, subseconds or utco is too wide for its bits. A bandwidth code up to 5 is not.
+#[tactic(auto, unfolding(fields::specs::Formats::too_wide))]
 fn field_too_wide(stamp: Stamp) -> bool
     requires { stamp.bw ≤ 5 }
     ensures { result ≡ too_wide format (fields_of stamp) }
@@ -134,6 +139,7 @@ fn field_too_wide(stamp: Stamp) -> bool
 }
 
 // Refuses a stamp that no payload holds, and too little room.
+#[tactic(auto, unfolding(crate::specs::Write::write_checks))]
 fn check_write(stamp: Stamp, room: usize) -> Result<(), Refusal>
     ensures { code result ≡ first (write_checks stamp room) }
 {
