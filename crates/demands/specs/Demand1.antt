@@ -15,7 +15,7 @@ use Rattle.packet.specs.declared.Packet.{Packet}
 use Rattle.stamp.specs.Read as stamp
 use Rattle.stamp.specs.Write as stamp_writing
 use Rattle.stamp.specs.declared.Stamp.{Stamp}
-use Rattle.stamp.specs.declared.StampRead.{StampRead}
+use Rattle.stamp.specs.Read.{StampRead}
 use Rattle.functions.specs.Read as function
 use Rattle.functions.specs.Write as function_writing
 use Rattle.functions.specs.declared.Function.{Function}

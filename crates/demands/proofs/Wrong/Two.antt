@@ -24,7 +24,7 @@ use Rattle.packet.specs.declared.Header.{Header}
 use Rattle.packet.specs.declared.Packet.{Packet}
 use Rattle.stamp.specs.Layout as stamp
 use Rattle.stamp.specs.Read as stamp_reading
-use Rattle.stamp.specs.declared.StampRead.{StampRead}
+use Rattle.stamp.specs.Read.{StampRead}
 use Rattle.functions.specs.Tags.{body_long, body_wrong, bandwidth_reserved}
 use Rattle.functions.specs.Function.{function_of}
 use Rattle.functions.specs.Read as function

@@ -1,4 +1,4 @@
--- `stamp::read_refusal` meets its contract: a chain of early returns in the order of the definition's list.
+-- `stamp::check_read` meets its contract: a chain of early returns in the order of the definition's list.
 use borrow.Author.Tests.{lt-ltb, le-ltb, eq-eqb, ne_eqb}
 use mathlib.Core.Path.{◌≡◌, sym, ap, ◌∙◌}
 use mathlib.Core.Bool.{not}
@@ -7,8 +7,8 @@ use Rattle.refusals.specs.Checks.{Check}
 use Rattle.refusals.proofs.CheckLaws.{Clear, first-at, first-none}
 use Rattle.stamp.specs.Layout.{bandwidth_over, second_reached}
 use Rattle.stamp.specs.Read.{stamp_of, read_checks}
-use Rattle.stamp.proofs.read_refusal.Goals as goal
-use Rattle.stamp.proofs.read_refusal.Goals.{After-second_reached, Else-payload-ne11, Else-reserved_set, Else-second_reached, Else-stamp-gt5, Start}
+use Rattle.stamp.proofs.check_read.Goals as goal
+use Rattle.stamp.proofs.check_read.Goals.{After-second_reached, Else-payload-ne11, Else-reserved_set, Else-second_reached, Else-stamp-gt5, Start}
 
 abbrev checks : Start → List Check
 checks c = read_checks c.args.payload.now

@@ -1,12 +1,12 @@
--- `stamp::write_refusal` meets its contract: a chain of early returns in the order of the definition's list.
+-- `stamp::check_write` meets its contract: a chain of early returns in the order of the definition's list.
 use borrow.Author.Tests.{lt-ltb, le-ltb}
 use mathlib.Core.Path.{sym, ◌∙◌}
 use mathlib.Core.List.{List}
 use Rattle.refusals.specs.Checks.{Check}
 use Rattle.refusals.proofs.CheckLaws.{Clear, first-at, first-none}
 use Rattle.stamp.specs.Write.{write_checks}
-use Rattle.stamp.proofs.write_refusal.Goals as goal
-use Rattle.stamp.proofs.write_refusal.Goals.{Else-field_too_wide, Else-room-lt11, Else-second_reached, Else-stamp-gt5, Start}
+use Rattle.stamp.proofs.check_write.Goals as goal
+use Rattle.stamp.proofs.check_write.Goals.{Else-field_too_wide, Else-room-lt11, Else-second_reached, Else-stamp-gt5, Start}
 
 abbrev checks : Start → List Check
 checks c = write_checks c.args.stamp c.args.room
