@@ -1,4 +1,4 @@
--- `addressing::function_fault` meets its contract: a chain of early returns in the order of the definition's list.
+-- `addressing::check_function` meets its contract: a chain of early returns in the order of the definition's list.
 use lib.ListN.{get_or}
 use mathlib.Core.Path.{◌≡◌, sym, ap₂, ◌∙◌}
 use mathlib.Core.List.{List}
@@ -6,8 +6,8 @@ use Rattle.functions.specs.Tags.{body_wrong, bandwidth_reserved}
 use Rattle.refusals.specs.Checks.{Check}
 use Rattle.refusals.proofs.CheckLaws.{Clear, first-at, first-none}
 use Rattle.addressing.specs.Data.{tag_of, body_length, function_checks}
-use Rattle.addressing.proofs.function_fault.Goals as goal
-use Rattle.addressing.proofs.function_fault.Goals.{After-bandwidth_reserved, After-body_wrong, Else-body_wrong, Else-function_cut, Start}
+use Rattle.addressing.proofs.check_function.Goals as goal
+use Rattle.addressing.proofs.check_function.Goals.{After-bandwidth_reserved, After-body_wrong, Else-body_wrong, Else-function_cut, Start}
 
 abbrev checks : Start → List Check
 checks c = function_checks c.args.own c.args.l.now
