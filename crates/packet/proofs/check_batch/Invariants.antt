@@ -1,7 +1,7 @@
 -- The fault of what is left of the batch is the fault of all of it.
 use Rattle.std.proofs.Common.{◌≡◌, ◌-◌, ◌≤◌, length, drop}
 use Rattle.packet.specs.Cut.{batch_fault}
-use Rattle.packet.proofs.batch_fault.Given as goal
+use Rattle.packet.proofs.check_batch.Given as goal
 
 abbrev pub invariant-loop-at : goal.invariant-loop-at
 invariant-loop-at l =
