@@ -1,21 +1,21 @@
--- `transport::refusal` meets its contract: a chain of early returns in the order of the definition's list, by the numbers of
+-- `transport::check` meets its contract: a chain of early returns in the order of the definition's list, by the numbers of
 -- any transport packet that they were read of.
-use borrow.Author.Tests.{not-true, not-false, eq-eqb, ne_eqb, lt-leb, le-leb}
+use borrow.Author.Tests.{eq-eqb, ne_eqb, lt-leb, le-leb}
 use mathlib.Core.Path.{◌≡◌, sym, ap, ◌∙◌}
-use mathlib.Core.Bool.{true, not}
+use mathlib.Core.Bool.{not}
 use mathlib.Core.List.{List}
 use Prim.Native.Nat.{ℕ, ◌/◌, ◌%◌}
 use native.Mathlib.Omega.{arith}
 use Rattle.fields.specs.Formats.{unpack}
 use Rattle.refusals.specs.Checks.{Check}
 use Rattle.refusals.proofs.CheckLaws.{Clear, first-at, first-none}
-use Rattle.transport.specs.Header.{head_of, header_field, starts, payload_at}
+use Rattle.transport.specs.Header.{head_of, header_field, payload_at}
 use Rattle.transport.specs.Tests.{transport_checks}
-use Rattle.transport.specs.Look.{stands_in}
-use Rattle.transport.specs.declared.Looked.{Looked}
-use Rattle.transport.proofs.HeaderLaws.{even-control, odd-control, payload-out, payload-within, aims-nowhere, aims-by}
-use Rattle.transport.proofs.refusal.Goals as goal
-use Rattle.transport.proofs.refusal.Goals.{Else-head-eq0, Else-head-eq1, Else-head-ne0, Else-head-ne71, Else-head-pid, Else-not-seen, Else-seen-gt187, Start}
+use Rattle.transport.specs.Look.{Looked, stands_in, seen_told}
+use Rattle.transport.proofs.HeaderLaws.{even-control, odd-control, payload-out, payload-within}
+use Rattle.transport.proofs.LookLaws.{pointer-none, pointer-some}
+use Rattle.transport.proofs.check.Goals as goal
+use Rattle.transport.proofs.check.Goals.{Else-head-eq0, Else-head-eq1, Else-head-ne0, Else-head-ne71, Else-head-pid, Else-seen-gt187, Start}
 
 -- of which the numbers were read
 module _ (t : List ℕ) where
@@ -23,7 +23,7 @@ module _ (t : List ℕ) where
   checks c = transport_checks c.args.pid t
 
   abbrev Of : Start → Type 0
-  Of c = (c.args.head ≡ head_of t) × (c.args.seen ≡ stands_in t)
+  Of c = (c.args.head ≡ head_of t) × (seen_told c.args.seen ≡ stands_in t)
 
   past1 : (c : Else-head-ne71) → Of (goal.at.Else-head-ne71 c).Start → Clear 1 (checks (goal.at.Else-head-ne71 c).Start)
   unfolding transport_checks header_field unpack
@@ -50,10 +50,6 @@ module _ (t : List ℕ) where
   past6 c o =
       let p : c.args.seen.payload ≡ payload_at t = ap (λ (x : Looked). x.payload) o.1 in
       (past5 (goal.at.Else-seen-gt187 c).Else-head-eq0 o, payload-within t (omega (arith, c.if-seen-gt187.false, p)))
-
-  -- where a packet begins, the test of the pointer is the code's
-  begun : (c : Else-not-seen) → Of (goal.at.Else-not-seen c).Start → starts t ≡ true
-  begun c o = sym (ap (λ (x : Looked). x.begins) o.1) ∙ not-false _ c.if-not-seen.false
 
 pub returns-then-head-ne71 : goal.returns-then-head-ne71
 unfolding transport_checks header_field unpack
@@ -86,23 +82,18 @@ returns-then-seen-gt187 c t h s =
     let p : c.args.seen.payload ≡ payload_at t = ap (λ (x : Looked). x.payload) s in
     first-at 5 (checks t (goal.at.returns-then-seen-gt187 c).Start) (past5 t (goal.at.returns-then-seen-gt187 c).Else-head-eq0 (h, s)) (payload-out t (omega (arith, c.if-seen-gt187.true, p)))
 
-pub returns-then-not-seen : goal.returns-then-not-seen
+pub returns-in_default : goal.returns-in_default
 unfolding transport_checks
-returns-then-not-seen c t h s =
-    first-none (checks t (goal.at.returns-then-not-seen c).Start) (past6 t (goal.at.returns-then-not-seen c).Else-seen-gt187 (h, s), aims-nowhere t (sym (ap (λ (x : Looked). x.begins) s) ∙ not-true _ c.if-not-seen.true))
+returns-in_default c t h s =
+    first-none (checks t (goal.at.returns-in_default c).Start) (past6 t (goal.at.returns-in_default c).Else-seen-gt187 (h, s), pointer-none t _ s c.in_default.is)
 
-pub returns-then-seen-ge188 : goal.returns-then-seen-ge188
+pub returns-then-seen-pointer-ge188 : goal.returns-then-seen-pointer-ge188
 unfolding transport_checks
-returns-then-seen-ge188 c t h s =
-    let a = c.args in
-    first-at 6 (checks t (goal.at.returns-then-seen-ge188 c).Start) (past6 t (goal.at.returns-then-seen-ge188 c).Else-seen-gt187 (h, s))
-    (aims-by t (begun t (goal.at.returns-then-seen-ge188 c).Else-not-seen (h, s)) a.seen.payload a.seen.pointer (ap (λ (x : Looked). x.payload) s) (ap (λ (x : Looked). x.pointer) s) ∙ le-leb _ _ c.if-seen-ge188.true)
+returns-then-seen-pointer-ge188 c t h s =
+    first-at 6 (checks t (goal.at.returns-then-seen-pointer-ge188 c).Start) (past6 t (goal.at.returns-then-seen-pointer-ge188 c).Else-seen-gt187 (h, s))
+    (pointer-some t _ s _ c.in-Some.is ∙ le-leb _ _ c.if-seen-pointer-ge188.true)
 
 pub returns : goal.returns
 unfolding transport_checks
 returns c t h s =
-    let a = c.args in
-    first-none (checks t (goal.at.returns c).Start) (
-      past6 t (goal.at.returns c).Else-seen-gt187 (h, s),
-      aims-by t (begun t (goal.at.returns c).Else-not-seen (h, s)) a.seen.payload a.seen.pointer (ap (λ (x : Looked). x.payload) s) (ap (λ (x : Looked). x.pointer) s) ∙ lt-leb _ _ c.if-seen-ge188.false,
-    )
+    first-none (checks t (goal.at.returns c).Start) (past6 t (goal.at.returns c).Else-seen-gt187 (h, s), pointer-some t _ s _ c.in-Some.is ∙ lt-leb _ _ c.if-seen-pointer-ge188.false)
