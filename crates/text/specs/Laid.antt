@@ -34,3 +34,7 @@ filled t = record { at = t.at; lines = t.lines.now }
 -- what it is once a text is appended: the buffer stays the one that was lent
 abbrev pub Appends : List ℕ → Text → Text → Type 0
 Appends text t u = (u.lines.ghost_name ≡ t.lines.ghost_name) × (filled u ≡ appended text t.at t.lines.now)
+
+-- the same where it has room
+abbrev pub Lays : List ℕ → Text → Text → Type 0
+Lays text t u = (u.lines.ghost_name ≡ t.lines.ghost_name) × (filled u ≡ laid text t.at t.lines.now)
