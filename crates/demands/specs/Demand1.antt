@@ -11,7 +11,7 @@ use Rattle.refusals.specs.Answers.{Wrote}
 use Rattle.packet.specs.Read as packet
 use Rattle.packet.specs.Write as packet_writing
 use Rattle.packet.specs.declared.Header.{Header}
-use Rattle.packet.specs.declared.Packet.{Packet}
+use Rattle.packet.specs.Read.{Packet}
 use Rattle.stamp.specs.Read as stamp
 use Rattle.stamp.specs.Write as stamp_writing
 use Rattle.stamp.specs.declared.Stamp.{Stamp}

@@ -21,7 +21,7 @@ use Rattle.packet.specs.Cut.{cut, cut_by, batch_fault, joined}
 use Rattle.packet.specs.Read as packet
 use Rattle.packet.specs.Write as packet_writing
 use Rattle.packet.specs.declared.Header.{Header}
-use Rattle.packet.specs.declared.Packet.{Packet}
+use Rattle.packet.specs.Read.{Packet}
 use Rattle.stamp.specs.Layout as stamp
 use Rattle.stamp.specs.Read as stamp_reading
 use Rattle.stamp.specs.Read.{StampRead}
