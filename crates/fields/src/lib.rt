@@ -9,7 +9,7 @@ ghost use Rattle.fields.specs.Parts.{number_at, stored_at, copied_to, filled_at}
 pub fn within(at: usize, n: usize, len: usize) -> bool
     ensures { result ≡ leb (at + n) len }
 {
-    len.checked_sub(at).is_some_and(|rest| n <= rest)
+    at <= len && n <= len - at
 }
 
 // Whether z is less than -half, or not less than half.
