@@ -28,19 +28,19 @@ pub enum Function {
 }
 
 // The tags of the table; every other tag is passed through.
-const TIME_OFFSET: u8 = 0;
+pub const TIME_OFFSET: u8 = 0;
 
-const FREQUENCY_OFFSET: u8 = 1;
+pub const FREQUENCY_OFFSET: u8 = 1;
 
-const POWER: u8 = 2;
+pub const POWER: u8 = 2;
 
-const PRIVATE: u8 = 3;
+pub const PRIVATE: u8 = 3;
 
-const CELL: u8 = 4;
+pub const CELL: u8 = 4;
 
-const ENABLE: u8 = 5;
+pub const ENABLE: u8 = 5;
 
-const BANDWIDTH: u8 = 6;
+pub const BANDWIDTH: u8 = 6;
 
 // Whether a body of n bytes is too long for function_length, which counts the tag and length bytes too.
 #[tactic(auto, unfolding(crate::specs::Tags::body_long))]
