@@ -5,11 +5,14 @@ ghost use Rattle.std.specs.Prelude.{◌≡◌, ◌&&◌, [], ◌∷◌, ◌+◌,
 ghost use Rattle.fields.specs.Formats.{pack};
 ghost use Rattle.fields.specs.Parts.{part, overlay};
 ghost use Rattle.refusals.specs.Checks.{first};
+ghost use Rattle.refusals.specs.Answers.{code};
 ghost use Rattle.transport.specs.Header.{header};
 ghost use Rattle.transport.specs.Load.{plain, start, control_for, head_bytes, transport_of};
 ghost use Rattle.carry.specs.Building.{blank, field_head, Laid};
 ghost use Rattle.carry.specs.Carry.{carry_checks, carry_of};
 ghost use Rattle.carry.specs.OnBytes.{left_of, plan_of, load_for, loads_from};
+
+use refusals::Refusal;
 
 // What carrying a batch gives: how many transport packets were written, and the count to go on with.
 #[repr(C)]
@@ -243,38 +246,34 @@ fn put_loads(pid: u16, first_count: u8, batch: &[u8], out: &mut [u8]) -> Done
     Done { packets: n, count }
 }
 
-// The number of the refusal, or 0.
-fn refusal(pid: u16, first_count: u8, batch: &[u8], room: usize) -> u32
-    ensures { result ≡ first (carry_checks pid first_count batch.now room) }
+// Refuses a batch that is not carried.
+fn check_carry(pid: u16, first_count: u8, batch: &[u8], room: usize) -> Result<(), Refusal>
+    ensures { code result ≡ first (carry_checks pid first_count batch.now room) }
 {
     if transport::pid_outside(pid) {
-        return refusals::PID_OUT_OF_RANGE;
+        return Err(Refusal::PidOutOfRange);
     }
     if 15 < first_count {
-        return refusals::FIRST_COUNT_OVER_15;
+        return Err(Refusal::FirstCountOver15);
     }
     if 65536 < batch.len() {
-        return refusals::BATCH_LONG;
+        return Err(Refusal::BatchLong);
     }
-    let fault = packet::batch_fault(batch);
-    if fault != 0 {
-        return fault;
-    }
+    packet::check_batch(batch)?;
     let size = 188 * needed(batch);
     if room < size {
-        return refusals::OUTPUT_SHORT;
+        return Err(Refusal::OutputShort);
     }
-    0
+    Ok(())
 }
 
 // Carries a batch of T2-MI packets, back to back, in transport packets of a PID, which are written to the front of out.
 pub fn carry(pid: u16, first_count: u8, batch: &[u8], out: &mut [u8]) -> Carried
     ensures { record { answer = result; out = out.new } ≡ carry_of pid first_count batch.now out.old }
 {
-    let refusal = refusal(pid, first_count, batch, out.len());
-    if refusal != 0 {
+    if let Err(refusal) = check_carry(pid, first_count, batch, out.len()) {
         return Carried {
-            refusal,
+            refusal: refusal.number(),
             packets: 0,
             next_count: 0,
         };

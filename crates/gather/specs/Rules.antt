@@ -1,10 +1,10 @@
 -- The reader's rules 1 to 4 on lists: which packets a transport packet finishes, and what waits after it. Each stage takes
 -- what the reader has in hand and gives what it then has.
-use Rattle.std.specs.Prelude.{ℕ, ◌+◌, ◌%◌, Bool, true, false, cond, not, List, [], ◌∷◌, ◌++◌, leb, eqb, length, take, drop}
+use Rattle.std.specs.Prelude.{ℕ, ◌+◌, ◌%◌, Bool, true, false, cond, not, List, [], ◌∷◌, ◌++◌, leb, eqb, length, take, drop, Result, Ok, Err}
 use Rattle.packet.specs.Layout.{size_of}
 use Rattle.packet.specs.Cut.{judge_of, cut}
-use Rattle.packet.specs.declared.Judged.{Judged}
-use Rattle.packet.specs.declared.Judged.TheVariants.{Short, Bad, Good}
+use Rattle.packet.specs.declared.Flaw.{Flaw}
+use Rattle.packet.specs.declared.Flaw.TheVariants.{Short, Bad}
 use Rattle.transport.specs.Header.{count_of, starts, pointer_of, carried_by}
 use Rattle.gather.specs.Marks.{mark_loss, mark_misfit, mark_crc}
 use Rattle.gather.specs.declared.Marks.{Marks}
@@ -90,10 +90,10 @@ abbrev pub strays : List ℕ → Hand → Hand
 strays d h = cond (none d) h (misfits h)
 
 -- a packet by its own length: unfinished, finished with a wrong CRC, or finished and good, with what is over after it
-abbrev pub finishes : Judged → List ℕ → Hand → Hand
-finishes Short l h = waits l h
-finishes Bad l h = crc_fails h
-finishes (Good n) l h = strays (drop n l) (hands_out (take n l ∷ []) h)
+abbrev pub finishes : Result ℕ Flaw → List ℕ → Hand → Hand
+finishes (Err Short) l h = waits l h
+finishes (Err Bad) l h = crc_fails h
+finishes (Ok n) l h = strays (drop n l) (hands_out (take n l ∷ []) h)
 
 -- d joins the waiting bytes
 unfoldable pub joining : List ℕ → Hand → Hand

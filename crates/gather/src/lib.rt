@@ -13,7 +13,7 @@ ghost use Rattle.gather.specs.Rules.{out_of_turn, reaches, rule_one};
 ghost use Rattle.gather.specs.Gather.{in_hand, gather_of};
 ghost use Rattle.gather.specs.Phases.{dropped_in, lost_in, misfits_in, crc_fails_in, waits_in, hands_out_in, answer_by, numbers, Entered, led_of, with_start_of, followed_of};
 
-use packet::Judged;
+use packet::Flaw;
 use transport::Looked;
 
 // The last count taken, or none.
@@ -337,9 +337,9 @@ fn follow(t: &[u8], at: usize, h: Numbers, output: &mut [u8]) -> Numbers
     let mut a = at;
     loop {
         match packet::judge(t, a) {
-            Judged::Short => return held.waits(t.len() - a),
-            Judged::Bad => return held.crc_fails(),
-            Judged::Good(size) => {
+            Err(Flaw::Short) => return held.waits(t.len() - a),
+            Err(Flaw::Bad) => return held.crc_fails(),
+            Ok(size) => {
                 let w = held.bytes;
                 fields::copy(output, w, size, t, a);
                 held = held.hands_out(size);

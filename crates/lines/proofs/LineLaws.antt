@@ -14,6 +14,7 @@ use Rattle.fields.specs.Formats.{unpack, Fit}
 use Rattle.fields.specs.Parts.{number_at, overlay}
 use Rattle.fields.proofs.Cases.{cases}
 use Rattle.fields.proofs.FormatLaws.{unpack-fit}
+use Rattle.fields.proofs.PartLaws.{length-overlay}
 use Rattle.refusals.specs.Checks.{Check, ◌when◌, holds, number, first}
 use Rattle.packet.specs.Layout.{header, size_of, reserved_type, pad_set}
 use Rattle.packet.specs.Read.{field, header_of, payload_of, reserved_set, read_checks, no_header, read_of}
@@ -25,7 +26,7 @@ use Rattle.packet.proofs.CutLaws.{cut_short, cut-bad, cut-good}
 use Rattle.packet.proofs.RoundTrips.{read-shows, read-accepted, read-refused}
 use Rattle.text.specs.Laid.{space, newline, word, laid, appended}
 use Rattle.lines.specs.Lines.{fields_line, refused_word, refused_line, line_by, line_of, lines_of}
-use Rattle.text.proofs.LayLaws.{appended-fits, laid-at, laid_next, laid_nil, word-few}
+use Rattle.text.proofs.LayLaws.{appended-fits, laid-at, laid-lines, laid_next, laid_nil, word-few}
 
 -- ---- the two kinds of line
 
@@ -166,8 +167,10 @@ module _ (s : List ℕ) (i size : ℕ) (e : size ≡ size_of (drop i s)) where
       x-laid : record { at = v; lines = n } ≡ laid x w m
       x-laid = f ∙ ap (λ (y : Packet). appended (line_by y) w m) reads ∙ appended-fits x w m (omega (arith, x-few))
 
-      pub left-room : v + 2 * (length s - (i + size)) ≤ length m
-      left-room = omega (arith, x-few, laid-at x w m v n x-laid)
+      pub left-room : v + 2 * (length s - (i + size)) ≤ length n
+      left-room =
+          let k : length n ≡ length m = ap length (laid-lines x w m v n x-laid) ∙ length-overlay w x m (omega (arith, x-few)) in
+          omega (arith, x-few, laid-at x w m v n x-laid)
 
       pub left-good : laid (lines_from (drop (i + size) s)) v n ≡ laid (lines_from (drop i s)) w m
       left-good =

@@ -7,8 +7,8 @@ use Rattle.packet.proofs.LayoutLaws.{size-least}
 use Rattle.packet.proofs.CutLaws.{cut-nil, cut_short, cut-bad, cut-good, cut_all, rest-judged, judged-short, judged-bad, judged-good, cut-cuts}
 use Rattle.packet.specs.Layout.{size_of}
 use Rattle.packet.specs.Cut.{AllWhole, cut, joined, judge_of, judged_number, batch_fault}
-use Rattle.packet.specs.declared.Judged.{Judged}
-use Rattle.packet.specs.declared.Judged.TheVariants.{Short, Bad, Good}
+use Rattle.std.specs.Prelude.{Result, Ok, Err}
+use Rattle.packet.specs.declared.Flaw.{Flaw}
 
 pub fault-nil : batch_fault [] ≡ 0
 unfolding batch_fault
@@ -20,16 +20,14 @@ unfolding batch_fault
 fault-none ps w = rw (cut_all ps w)
 
 -- what the judgement of the first packet makes of the batch
-abbrev pub fault_by : Judged → List ℕ → ℕ
-fault_by Short l = judged_number Short
-fault_by Bad l = judged_number Bad
-fault_by (Good n) l = batch_fault (drop n l)
+abbrev pub fault_by : Result ℕ Flaw → List ℕ → ℕ
+fault_by (Err f) l = judged_number (Err f)
+fault_by (Ok n) l = batch_fault (drop n l)
 
 -- a good packet lies in the bytes
-abbrev pub Lies : Judged → List ℕ → Type 0
-Lies Short l = Unit
-Lies Bad l = Unit
-Lies (Good n) l = (10 ≤ n) × (n ≤ length l)
+abbrev pub Lies : Result ℕ Flaw → List ℕ → Type 0
+Lies (Err f) l = Unit
+Lies (Ok n) l = (10 ≤ n) × (n ≤ length l)
 
 pub record JudgedAs (l : List ℕ) : Type 0 where
   pub fault : batch_fault l ≡ fault_by (judge_of l) l

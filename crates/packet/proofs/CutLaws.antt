@@ -7,7 +7,8 @@ use Rattle.fields.proofs.Cases.{cases}
 use Rattle.packet.proofs.LayoutLaws.{size-least, size-take, size-append}
 use Rattle.packet.specs.Layout.{size_of}
 use Rattle.packet.specs.Cut.{Whole, AllWhole, Cut, stop, more, cut_by, cut, joined, judge_of, judged_number}
-use Rattle.packet.specs.declared.Judged.TheVariants.{Short, Bad, Good}
+use Rattle.std.specs.Prelude.{Ok, Err}
+use Rattle.packet.specs.declared.Flaw.TheVariants.{Short, Bad}
 
 -- ---- with a bound on the packets, case by case
 
@@ -64,15 +65,15 @@ cut-nil = cut_short [] (omega (arith, size-least []))
 
 -- ---- what `judge` says of the first packet is how the cut goes on
 
-pub judged-short : (l : List ℕ) → length l < size_of l → judge_of l ≡ Short
+pub judged-short : (l : List ℕ) → length l < size_of l → judge_of l ≡ Err Short
 unfolding judge_of
 judged-short l h = simp (lt-leb (size_of l) (length l) h)
 
-pub judged-bad : (l : List ℕ) → size_of l ≤ length l → crc_holds (take (size_of l) l) ≡ false → judge_of l ≡ Bad
+pub judged-bad : (l : List ℕ) → size_of l ≤ length l → crc_holds (take (size_of l) l) ≡ false → judge_of l ≡ Err Bad
 unfolding judge_of
 judged-bad l h b = simp (le-leb (size_of l) (length l) h, b)
 
-pub judged-good : (l : List ℕ) → size_of l ≤ length l → crc_holds (take (size_of l) l) ≡ true → judge_of l ≡ Good (size_of l)
+pub judged-good : (l : List ℕ) → size_of l ≤ length l → crc_holds (take (size_of l) l) ≡ true → judge_of l ≡ Ok (size_of l)
 unfolding judge_of
 judged-good l h b = simp (le-leb (size_of l) (length l) h, b)
 

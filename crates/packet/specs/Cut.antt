@@ -1,10 +1,12 @@
 -- Packets back to back: how bytes are cut into T2-MI packets by their own lengths. The batch writer and the gathering
 -- reader stand on this definition. Only length and CRC are judged.
-use Rattle.std.specs.Prelude.{◌≡◌, ℕ, zero, suc, Bool, true, false, cond, List, [], ◌∷◌, ◌++◌, length, take, drop, ◌==◌, nat_le}
+use Rattle.std.specs.Prelude.{◌≡◌, ℕ, zero, suc, Bool, true, false, cond, List, [], ◌∷◌, ◌++◌, length, take, drop, ◌==◌, nat_le, Result, Ok, Err}
 use Rattle.crc.specs.Crc.{crc_holds}
 use Rattle.packet.specs.Layout.{size_of}
-use Rattle.packet.specs.declared.Judged.{Judged}
-use Rattle.packet.specs.declared.Judged.TheVariants.{Short, Bad, Good}
+use Rattle.refusals.specs.Refusals.{number_of}
+use Rattle.refusals.specs.declared.Refusal.{Refusal}
+use Rattle.packet.specs.declared.Flaw.{Flaw}
+use Rattle.packet.specs.declared.Flaw.TheVariants.{Short, Bad}
 
 -- a whole packet whose CRC holds
 pub record Whole (p : List ℕ) : Type 0 where
@@ -17,8 +19,8 @@ AllWhole [] = Unit
 AllWhole (p ∷ ps) = Whole p × AllWhole ps
 
 -- the packet that the bytes begin with: fewer bytes than it needs, a wrong CRC, or good and so long
-unfoldable pub judge_of : List ℕ → Judged
-judge_of l = cond (nat_le (size_of l) (length l)) (cond (crc_holds (take (size_of l) l)) (Good (size_of l)) Bad) Short
+unfoldable pub judge_of : List ℕ → Result ℕ Flaw
+judge_of l = cond (nat_le (size_of l) (length l)) (cond (crc_holds (take (size_of l) l)) (Ok (size_of l)) (Err Bad)) (Err Short)
 
 -- what bytes are cut into: the good packets up to the first that is not, the rest, and whether the rest begins with a
 -- whole packet whose CRC is wrong
@@ -46,10 +48,14 @@ unfoldable pub cut : List ℕ → Cut
 cut l = cut_by (length l) l
 
 -- the number that each judgement has in a batch: fewer bytes left than a whole packet needs, or a wrong CRC
-abbrev pub judged_number : Judged → ℕ
-judged_number Short = 13
-judged_number Bad = 14
-judged_number (Good n) = 0
+abbrev pub judged_number : Result ℕ Flaw → ℕ
+judged_number (Err Short) = 13
+judged_number (Err Bad) = 14
+judged_number (Ok n) = 0
+
+-- the refusal that a flaw becomes
+abbrev pub Means : Flaw → Refusal → Type 0
+Means f r = number_of r ≡ judged_number (Err f)
 
 -- what is wrong with bytes that should be whole packets, packet by packet: what is left behind the good ones is judged; 0 where
 -- nothing is left

@@ -4,12 +4,13 @@
 ghost use Rattle.std.specs.Prelude.{◌≡◌, drop};
 ghost use Rattle.fields.specs.Formats.{pack, too_wide};
 ghost use Rattle.refusals.specs.Checks.{first};
+ghost use Rattle.refusals.specs.Answers.{code};
 ghost use Rattle.packet.specs.Layout.{header, reserved_type, count_after, payload_bytes, total_of, pad_set, size_of};
 ghost use Rattle.packet.specs.Read.{header_of, reserved_set, read_checks, read_of, payload_read};
 ghost use Rattle.packet.specs.Write.{fields_of, write_checks, write_of};
-ghost use Rattle.packet.specs.Cut.{judge_of, batch_fault};
+ghost use Rattle.packet.specs.Cut.{judge_of, Means, batch_fault};
 
-use refusals::Written;
+use refusals::{Refusal, Written};
 
 // The fields of a header, in its order: packet_type, packet_count, superframe_idx, t2mi_stream_id, payload_len.
 #[derive(Clone, Copy)]
@@ -28,12 +29,22 @@ pub struct Packet {
     pub header: Header,
 }
 
-// What bytes begin with: fewer than their packet needs, a whole packet whose CRC is wrong, or a good one so long.
-#[derive(Clone, Copy)]
-pub enum Judged {
+// Why bytes begin with no good packet: they are fewer than theirs needs, or its CRC is wrong.
+#[derive(Clone, Copy, Debug, PartialEq, Eq)]
+pub enum Flaw {
     Short,
     Bad,
-    Good(usize),
+}
+
+impl From<Flaw> for Refusal {
+    ghost from_gives = { Means };
+
+    fn from(flaw: Flaw) -> Refusal {
+        match flaw {
+            Flaw::Short => Refusal::BatchCut,
+            Flaw::Bad => Refusal::CrcWrong,
+        }
+    }
 }
 
 // The bytes of a payload of so many bits, with its pad.
@@ -92,34 +103,30 @@ pub fn own_length(s: &[u8], at: usize) -> usize
     total(high as u32 * 256 + low as u32)
 }
 
-// What s begins with at at.
-pub fn judge(s: &[u8], at: usize) -> Judged
+// The length of the good packet that s begins with at at.
+pub fn judge(s: &[u8], at: usize) -> Result<usize, Flaw>
     ensures { result ≡ judge_of (drop at s.now) }
 {
     let size = own_length(s, at);
     if !fields::within(at, size, s.len()) {
-        return Judged::Short;
+        return Err(Flaw::Short);
     }
     let end = at + size;
     if crc::holds(&s[at..end]) {
-        return Judged::Good(size);
+        return Ok(size);
     }
-    Judged::Bad
+    Err(Flaw::Bad)
 }
 
-// The first fault of packets back to back, packet by packet: 13, 14, or 0.
-pub fn batch_fault(batch: &[u8]) -> u32
-    ensures { result ≡ batch_fault batch.now }
+// Refuses packets back to back for the first flaw of them.
+pub fn check_batch(batch: &[u8]) -> Result<(), Refusal>
+    ensures { code result ≡ batch_fault batch.now }
 {
     let mut at = 0;
     while at < batch.len() {
-        match judge(batch, at) {
-            Judged::Short => return refusals::BATCH_CUT,
-            Judged::Bad => return refusals::CRC_WRONG,
-            Judged::Good(size) => at += size,
-        }
+        at += judge(batch, at)?;
     }
-    0
+    Ok(())
 }
 
 // The header's fields of s, zeros where s has no header. Each lies as many bits from the end as the fields behind it take.

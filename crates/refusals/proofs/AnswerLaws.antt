@@ -12,7 +12,7 @@ use Rattle.fields.proofs.Cases.{cases}
 use Rattle.fields.specs.Parts.{overlay}
 use Rattle.refusals.specs.Checks.{Check, first}
 use Rattle.refusals.specs.Refusals.{number_of}
-use Rattle.refusals.specs.Answers.{answer, told, bytes_of, Wrote, written}
+use Rattle.refusals.specs.Answers.{answer, told, code, bytes_of, Wrote, written}
 use Rattle.refusals.specs.declared.Refusal.{Refusal}
 use Rattle.refusals.proofs.NumberLaws.{number-not-0}
 
@@ -68,3 +68,7 @@ module _ (checks : List Check) (result out : List ℕ) where
   -- a refusal writes nothing
   pub written-refused : (first checks ≡ 0 → ⊥) → written checks result out ≡ record { answer = record { refusal = first checks; bytes = 0 }; out = out }
   written-refused h = sym (written-number (first checks) refl h)
+
+-- the exit of a `?`: what another operation found is what is told
+pub code-exit : {T : Type 0} (r : Result T Refusal) (e : Refusal) → IsErrAnd r (λ y. y ≡ e) → code r ≡ number_of e
+code-exit r e p = let q = err_from_is_err_and r p in rw (q.1, q.2)

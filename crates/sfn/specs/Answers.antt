@@ -1,5 +1,6 @@
 -- An answer of a crate below, laid out flat, and arguments that stand apart, put together.
-use Rattle.std.specs.Prelude.{ℕ, Bool, true, false, cond, List, eqb, ltb, length, ℤ, pos}
+use Rattle.std.specs.Prelude.{◌≡◌, Result, ℕ, Bool, true, false, cond, List, eqb, ltb, length, ℤ, pos}
+use Rattle.refusals.specs.declared.Refusal.{Refusal}
 use Rattle.functions.specs.declared.Function.{Function}
 use Rattle.functions.specs.declared.Function.TheVariants.{TimeOffset, FrequencyOffset, Power, Private, Cell, Enable, Bandwidth, Passed}
 use Rattle.sfn.specs.declared.SfnFunction.{SfnFunction}
@@ -9,7 +10,7 @@ use Rattle.stamp.specs.Layout.{kind_of}
 use Rattle.stamp.specs.declared.Stamp.{Stamp}
 use Rattle.stamp.specs.declared.Kind.{Kind}
 use Rattle.stamp.specs.declared.Kind.TheVariants.{Null, Relative, Absolute}
-use Rattle.stamp.specs.declared.StampRead.{StampRead}
+use Rattle.stamp.specs.Read.{StampRead, stamp_told}
 use Rattle.sfn.specs.declared.SfnStamp.{SfnStamp}
 use Rattle.sfn.specs.declared.SfnPacket.{SfnPacket}
 
@@ -48,6 +49,10 @@ stamp_of p =
       bw = p.stamp.bw;
       kind = kind_read p.refusal p.stamp;
     }
+
+-- what a result of `read` is laid out as
+abbrev pub ShowsStamp : Result Stamp Refusal → SfnStamp → Type 0
+ShowsStamp r s = s ≡ stamp_of (stamp_told r)
 
 abbrev pub stamp_from : ℕ → ℕ → ℕ → ℕ → Stamp
 stamp_from bw seconds subseconds utco = record { bw = bw; seconds = seconds; subseconds = record { 0 = subseconds }; utco = utco }

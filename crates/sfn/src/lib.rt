@@ -13,14 +13,14 @@ ghost use Rattle.carry.specs.Carry.{carry_of};
 ghost use Rattle.functions.specs.Read.{function_read};
 ghost use Rattle.stamp.specs.Read.{read_of as stamp_read};
 ghost use Rattle.stamp.specs.Write.{write_of as stamp_written};
-ghost use Rattle.sfn.specs.Answers.{packet_of, length_held, kind_number, kind_read, stamp_of, stamp_from, bit_of, of_kind, function_of};
+ghost use Rattle.sfn.specs.Answers.{packet_of, length_held, kind_number, stamp_of, ShowsStamp, stamp_from, bit_of, of_kind, function_of};
 ghost use Rattle.sfn.specs.Making.{natural_of, offset_made, waiting_made, power_made, made_of, function_written};
 
 use carry::Carried;
 use functions::Function;
 use packet::Header;
 pub use reader::{SfnGathered, SfnReader, SfnStarted, sfn_gather, sfn_start};
-use refusals::Written;
+use refusals::{Refusal, Written};
 pub use site::{
     SfnAddressing, SfnMip, SfnTime, SfnWalked, sfn_addressing_read, sfn_addressing_write,
     sfn_emission, sfn_extra_delay, sfn_mip_read, sfn_mip_write, sfn_walk,
@@ -95,7 +95,7 @@ pub fn sfn_packet_write(
 
 // What reading a timestamp payload gives.
 #[repr(C)]
-#[derive(Clone, Copy)]
+#[derive(Clone, Copy, Default)]
 pub struct SfnStamp {
     pub seconds: u64,
     pub refusal: u32,
@@ -109,37 +109,34 @@ pub struct SfnStamp {
 fn kind_number(kind: Kind) -> u8
     ensures { result ≡ kind_number kind }
 {
-    match kind {
-        Kind::Absolute => 0,
-        Kind::Relative => 1,
-        Kind::Null => 2,
-    }
+    kind as u8
 }
 
-// What the stamp that was read is; 0 with a refusal, as all its fields are.
-fn kind_read(refusal: u32, s: Stamp) -> u8
-    ensures { result ≡ kind_read refusal s }
-{
-    if refusal != 0 {
-        return 0;
+impl From<Result<Stamp, Refusal>> for SfnStamp {
+    ghost from_gives = { ShowsStamp };
+
+    fn from(answer: Result<Stamp, Refusal>) -> SfnStamp {
+        match answer {
+            Ok(s) => SfnStamp {
+                seconds: s.seconds,
+                refusal: 0,
+                subseconds: s.subseconds.0,
+                utco: s.utco,
+                bw: s.bw,
+                kind: kind_number(stamp::kind_of(s)),
+            },
+            Err(e) => SfnStamp {
+                refusal: e.number(),
+                ..SfnStamp::default()
+            },
+        }
     }
-    kind_number(stamp::kind_of(s))
 }
 
 pub fn sfn_stamp_read(payload: &[u8]) -> SfnStamp
     ensures { result ≡ stamp_of (stamp_read payload.now) }
 {
-    let answer = stamp::read(payload);
-    let s = answer.stamp;
-    let kind = kind_read(answer.refusal, s);
-    SfnStamp {
-        seconds: s.seconds,
-        refusal: answer.refusal,
-        subseconds: s.subseconds.0,
-        utco: s.utco,
-        bw: s.bw,
-        kind,
-    }
+    stamp::read(payload).into()
 }
 
 pub fn sfn_stamp_write(bw: u8, seconds: u64, subseconds: u32, utco: u16, out: &mut [u8]) -> Written
@@ -151,7 +148,7 @@ pub fn sfn_stamp_write(bw: u8, seconds: u64, subseconds: u32, utco: u16, out: &m
         subseconds: Subseconds(subseconds),
         utco,
     };
-    stamp::write(s, out)
+    stamp::write(s, out).into()
 }
 
 pub fn sfn_carry(pid: u16, first_count: u8, batch: &[u8], out: &mut [u8]) -> Carried

@@ -6,6 +6,7 @@ use Prim.Native.Nat.{ℕ, ◌+◌, ◌%◌}
 use native.Mathlib.Omega.{arith}
 use Rattle.fields.specs.Parts.{overlay}
 use Rattle.refusals.proofs.AnswerLaws.{answer-number, answer-accepted}
+use Rattle.refusals.proofs.NumberLaws.{number-not-0}
 use Rattle.refusals.specs.Checks.{first}
 use Rattle.packet.specs.Cut.{joined}
 use Rattle.transport.specs.Load.{Load}
@@ -16,7 +17,7 @@ use Rattle.carry.specs.Building.{Laid}
 use Rattle.carry.specs.OnBytes.{loads_from}
 use Rattle.carry.specs.declared.Done.{Done}
 use Rattle.carry.proofs.carry.Goals as goal
-use Rattle.carry.proofs.carry.Goals.{Else-refusal-ne0}
+use Rattle.carry.proofs.carry.Goals.{In_default}
 
 abbrev outcome : ℕ → ℕ → List ℕ → List Load → Outcome
 outcome pid first_count out ls =
@@ -36,22 +37,22 @@ carried-is pid first_count batch out h w d after l =
     ∙ sym (answer-accepted (carry_checks pid first_count batch (length out)) _ _ h)
 
 -- past the test the batch is carried
-well : (c : Else-refusal-ne0) → Carriable c.args.pid c.args.first_count c.args.batch.now (length c.args.out.now)
-well c = carriable _ _ _ _ (sym c.refusal-refusal.ensures ∙ c.if-refusal-ne0.false)
+well : (c : In_default) → Carriable c.args.pid c.args.first_count c.args.batch.now (length c.args.out.now)
+well c = carriable _ _ _ _ (sym c.in_default.ensures)
 
-pub returns-then-refusal-ne0 : goal.returns-then-refusal-ne0
+pub returns-in-Err : goal.returns-in-Err
 unfolding carry_of
-returns-then-refusal-ne0 c = answer-number _ _ _ _ c.refusal-refusal.ensures c.if-refusal-ne0.true
+returns-in-Err c = answer-number _ _ _ _ (c.number.ensures ∙ c.in-Err.ensures) (λ z. number-not-0 _ (sym c.number.ensures ∙ z))
 
 pub put_loads-d-requires : goal.put_loads-d-requires
-put_loads-d-requires c = let w = well (goal.at.put_loads-d-requires c).Else-refusal-ne0 in (w.count-good, rw (loads-same _ w.good) w.roomy)
+put_loads-d-requires c = let w = well (goal.at.put_loads-d-requires c).In_default in (w.count-good, rw (loads-same _ w.good) w.roomy)
 
 pub overflow_cast-packets : goal.overflow_cast-packets
 overflow_cast-packets c =
     let a = c.args in
-    omega (arith, c.put_loads-d.ensures.packets, loads-few 0 a.batch.now, (well (goal.at.overflow_cast-packets c).Else-refusal-ne0).short)
+    omega (arith, c.put_loads-d.ensures.packets, loads-few 0 a.batch.now, (well (goal.at.overflow_cast-packets c).In_default).short)
 
 pub returns : goal.returns
 returns c =
     let a = c.args in
-    carried-is a.pid a.first_count a.batch.now a.out.now (sym c.refusal-refusal.ensures ∙ c.if-refusal-ne0.false) (well (goal.at.returns c).Else-refusal-ne0) _ _ c.put_loads-d.ensures
+    carried-is a.pid a.first_count a.batch.now a.out.now (sym c.in_default.ensures) (well (goal.at.returns c).In_default) _ _ c.put_loads-d.ensures

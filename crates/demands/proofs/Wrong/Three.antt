@@ -15,8 +15,9 @@ use Rattle.refusals.specs.Answers.{answer}
 use Rattle.crc.specs.Crc as crc
 use Rattle.packet.specs.Layout.{size_of}
 use Rattle.packet.specs.Cut.{judge_of, Cut, stop, more, cut_by, cut, batch_fault, joined}
-use Rattle.packet.specs.declared.Judged.{Judged}
-use Rattle.packet.specs.declared.Judged.TheVariants.{Short, Good}
+use Rattle.std.specs.Prelude.{Result, Ok, Err}
+use Rattle.packet.specs.declared.Flaw.{Flaw}
+use Rattle.packet.specs.declared.Flaw.TheVariants.{Short}
 use Rattle.transport.specs.Header as transport
 use Rattle.transport.specs.Tests.{pid_outside, field_long, pointer_beyond, transport_checks}
 use Rattle.transport.specs.Load.{head_bytes, transport_of}
@@ -178,8 +179,8 @@ marks-all d =
 -- ---- Harbour: two halves joined across sixteen lost transport packets, and the CRC not looked at
 
 -- by its own length alone a packet is finished, and good
-abbrev trusted : List ℕ → Judged
-trusted l = cond (leb (size_of l) (length l)) (Good (size_of l)) Short
+abbrev trusted : List ℕ → Result ℕ Flaw
+trusted l = cond (leb (size_of l) (length l)) (Ok (size_of l)) (Err Short)
 
 abbrev trusted_cut : ℕ → List ℕ → Cut
 trusted_cut zero l = stop l false

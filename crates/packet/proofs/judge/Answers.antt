@@ -5,12 +5,13 @@ use Rattle.packet.proofs.CutLaws.{judged-short, judged-bad, judged-good}
 use Rattle.packet.proofs.LayoutLaws.{size-least}
 use Rattle.packet.specs.Layout.{size_of}
 use Rattle.packet.specs.Cut.{judge_of}
-use Rattle.packet.specs.declared.Judged.TheVariants.{Short, Bad, Good}
+use Rattle.std.specs.Prelude.{Ok, Err}
+use Rattle.packet.specs.declared.Flaw.TheVariants.{Short, Bad}
 use Rattle.packet.proofs.judge.Goals as goal
 use Rattle.packet.proofs.judge.Goals.{Else-not-within}
 
 module _ (s : List ℕ) (at size : ℕ) (e : size ≡ size_of (drop at s)) where
-  short : leb (at + size) (length s) ≡ false → judge_of (drop at s) ≡ Short
+  short : leb (at + size) (length s) ≡ false → judge_of (drop at s) ≡ Err Short
   short h = judged-short (drop at s) (rw (length-drop at s, ← e) (omega (arith, leb-false (at + size) (length s) h, size-least (drop at s))))
 
   -- the part that the code lends is the packet
@@ -21,10 +22,10 @@ module _ (s : List ℕ) (at size : ℕ) (e : size ≡ size_of (drop at s)) where
     long : size_of (drop at s) ≤ length (drop at s)
     long = rw (length-drop at s, ← e) (omega arith)
 
-    good : crc_holds (take (at + size - at) (drop at s)) ≡ true → judge_of (drop at s) ≡ Good size
-    good g = judged-good (drop at s) long (rw lent at g) ∙ ap Good (sym e)
+    good : crc_holds (take (at + size - at) (drop at s)) ≡ true → judge_of (drop at s) ≡ Ok size
+    good g = judged-good (drop at s) long (rw lent at g) ∙ ap Ok (sym e)
 
-    bad : crc_holds (take (at + size - at) (drop at s)) ≡ false → judge_of (drop at s) ≡ Bad
+    bad : crc_holds (take (at + size - at) (drop at s)) ≡ false → judge_of (drop at s) ≡ Err Bad
     bad g = judged-bad (drop at s) long (rw lent at g)
 
 -- past the first test the packet lies in the slice
