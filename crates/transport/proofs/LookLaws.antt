@@ -1,16 +1,24 @@
 -- The laws of a look: what it answers by its length and by the first of 5 to 11.
 -- Assumes nothing.
-use mathlib.Core.Path.{◌≡◌, refl, sym, ◌∙◌}
+use mathlib.Core.Path.{◌≡◌, refl, sym, ap, ◌∙◌}
+use mathlib.Core.Bool.{true, false, cond}
 use mathlib.Core.List.{List}
-use Prim.Native.Nat.{ℕ}
+use Prim.Native.Nat.{ℕ, ◌+◌}
 use native.Mathlib.Omega.{arith}
+use lib.Dec.{leb}
 use lib.ListN.{length}
+use Rattle.std.specs.Prelude.{Result, IsErrAnd, Some, None, is_some}
+use Rattle.fields.proofs.Cases.{cases}
 use borrow.Author.Tests.{eq-eqb, ne_eqb}
 use Rattle.refusals.specs.Checks.{first}
-use Rattle.refusals.proofs.AnswerLaws.{answer-accepted, answer-number, answer-shows}
-use Rattle.transport.specs.Tests.{transport_checks, look_checks}
-use Rattle.transport.specs.Look.{stands_in, nothing_in, look_of}
-use Rattle.transport.specs.declared.Looked.{Looked}
+use Rattle.refusals.specs.Refusals.{number_of}
+use Rattle.refusals.specs.declared.Refusal.{Refusal}
+use Rattle.refusals.proofs.AnswerLaws.{answer-accepted, answer-number, answer-exit, answer-shows}
+use Rattle.transport.specs.Header.{count_of, starts, payload_at, pointer_of}
+use Rattle.transport.specs.Tests.{pointer_beyond, transport_checks, look_checks}
+use Rattle.transport.specs.Look.{Looked, stands_in, nothing_in, look_of, seen_told, look_told}
+use Rattle.transport.specs.declared.Looked as given
+use Rattle.transport.proofs.HeaderLaws.{aims-nowhere, aims-by}
 
 module _ (pid : ℕ) (t : List ℕ) where
   -- not 188 bytes
@@ -23,9 +31,9 @@ module _ (pid : ℕ) (t : List ℕ) where
     unfolding look_checks
     first-five = rw (eq-eqb (length t) 188 whole)
 
-    pub look-refused : (n : ℕ) → n ≡ first (transport_checks pid t) → (n ≡ 0 → ⊥) → nothing_in n ≡ look_of pid t
+    pub look-exit : (r : Result given.Looked Refusal) (e : Refusal) → IsErrAnd r (λ y. y ≡ e) → number_of e ≡ first (transport_checks pid t) → look_told r ≡ look_of pid t
     unfolding look_of
-    look-refused n e h = answer-number (look_checks pid t) nothing_in (stands_in t) n (e ∙ sym first-five) h
+    look-exit r e p h = answer-exit (look_checks pid t) nothing_in (stands_in t) seen_told r e p (h ∙ sym first-five)
 
     pub look-taken : first (transport_checks pid t) ≡ 0 → look_of pid t ≡ stands_in t
     unfolding look_of
@@ -35,3 +43,27 @@ module _ (pid : ℕ) (t : List ℕ) where
     pub look-shows : (look_of pid t).refusal ≡ first (transport_checks pid t)
     unfolding look_of
     look-shows = answer-shows (look_checks pid t) nothing_in (stands_in t) (λ (x : Looked). x.refusal) (λ n. refl) refl ∙ first-five
+
+-- ---- what is read of a packet
+
+-- field by field
+pub stands : (t : List ℕ) (s : given.Looked) → s.count ≡ count_of t → s.payload ≡ payload_at t → s.pointer ≡ cond (starts t) (Some (pointer_of t)) None
+    → seen_told s ≡ stands_in t
+stands t s n p q = rw (n, p, q) (cases (starts t) (λ b. rw b) (λ b. rw b))
+
+-- it says whether the pointer lies beyond the packet
+module _ (t : List ℕ) (s : given.Looked) (e : seen_told s ≡ stands_in t) where
+  payload-is : s.payload ≡ payload_at t
+  payload-is = ap (λ (x : Looked). x.payload) e
+
+  begins-is : is_some s.pointer ≡ starts t
+  begins-is = ap (λ (x : Looked). x.begins) e
+
+  pub pointer-none : s.pointer ≡ None → pointer_beyond t ≡ false
+  pointer-none n = aims-nowhere t (sym begins-is ∙ rw n)
+
+  pub pointer-some : (p : ℕ) → s.pointer ≡ Some p → pointer_beyond t ≡ leb 188 (s.payload + 1 + p)
+  pointer-some p n =
+      let b : true ≡ starts t = rw n at begins-is in
+      let q : p ≡ cond (starts t) (pointer_of t) 0 = rw n at (ap (λ (x : Looked). x.pointer) e) in
+      aims-by t (sym b) s.payload p payload-is q

@@ -21,7 +21,7 @@ use Rattle.packet.specs.Read.{Packet}
 use Rattle.functions.specs.Tags.{body_long, body_wrong, bandwidth_reserved}
 use Rattle.functions.specs.Read as function
 use Rattle.functions.specs.declared.Function.{Function}
-use Rattle.functions.specs.declared.FunctionRead.{FunctionRead}
+use Rattle.functions.specs.Read.{FunctionRead}
 use Rattle.addressing.specs.Data.{entries_by, entries_in, fault_in, fault_of}
 use Rattle.addressing.specs.declared.PayloadRead.{PayloadRead}
 use Rattle.addressing.specs.declared.Walked.{Walked}

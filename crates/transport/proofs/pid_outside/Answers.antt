@@ -1,12 +1,9 @@
 -- `transport::pid_outside` meets its contract: under the least, or over the greatest.
-use borrow.Author.Tests.{lt-ltb, le-ltb}
+use Rattle.std.proofs.Common.{arith}
+use Rattle.std.proofs.lemmas.Grind.{common_steps}
 use Rattle.transport.specs.Tests.{pid_outside}
 use Rattle.transport.proofs.pid_outside.Goals as goal
 
-pub returns-then-pid-lt32 : goal.returns-then-pid-lt32
-unfolding pid_outside
-returns-then-pid-lt32 c = rw (lt-ltb _ _ c.if-pid-lt32.true)
-
 pub returns : goal.returns
 unfolding pid_outside
-returns c = rw (le-ltb _ _ c.if-pid-lt32.false)
+returns c = let k = c.new.ensures in rw (c.contains.ensures.value, k.start, k.end, k.exhausted) (grind (arith, common_steps))

@@ -3,10 +3,12 @@ use lib.Dec.{eqb}
 use lib.ListN.{get_or}
 use mathlib.Core.Path.{◌≡◌, sym, ap, ap₂, ◌∙◌}
 use mathlib.Core.Bool.{Bool, cond}
+use Rattle.std.specs.Prelude.{Some, None}
 use Prim.Native.Nat.{ℕ, ◌+◌, ◌/◌, ◌%◌}
 use native.Mathlib.Nat.{div-one}
 use Rattle.fields.specs.Formats.{unpack}
 use Rattle.transport.specs.Header.{head_of, header_field, count_of, starts, payload_at, pointer_of}
+use Rattle.transport.proofs.LookLaws.{stands}
 use Rattle.transport.proofs.read.Goals as goal
 
 pub returns : goal.returns
@@ -17,5 +19,5 @@ returns c =
     let n : c.args.head % 16 ≡ count_of t = ap (λ (h : ℕ). h % 16) (e ∙ sym (div-one (head_of t))) in
     let b : eqb (c.args.head / 4194304 % 2) 1 ≡ starts t = ap (λ (h : ℕ). eqb (h / 4194304 % 2) 1) e in
     let p : c.payload_at-payload.result ≡ payload_at t = c.payload_at-payload.ensures ∙ ap (λ (h : ℕ). cond (eqb (h / 16 % 4) 3) (5 + get_or t 4 0) 4) e in
-    let q : c.pointer_at-pointer.result ≡ cond (starts t) (pointer_of t) 0 = c.pointer_at-pointer.ensures ∙ ap₂ (λ (x : Bool) (k : ℕ). cond x (get_or t k 0) 0) b p in
-    λ i. record { refusal = 0; count = n i; begins = b i; payload = p i; pointer = q i }
+    let q : c.pointer_at.result ≡ cond (starts t) (Some (pointer_of t)) None = c.pointer_at.ensures ∙ ap₂ (λ (x : Bool) (k : ℕ). cond x (Some (get_or t k 0)) None) b p in
+    stands t _ n p q
