@@ -18,8 +18,7 @@ use Rattle.packet.proofs.LayoutLaws.{size-least, size-append}
 use Rattle.transport.specs.Load.{Load, plain, start}
 use Rattle.transport.proofs.LoadLaws.{Sound, sound-plain, sound-start}
 use Rattle.carry.specs.Loads.{Gone, gone_of, loads_by, loads_of}
-use Rattle.carry.specs.OnBytes.{left_by, left_of, plan_of, load_for, bytes_by, loads_from}
-use Rattle.carry.specs.declared.Plan.{Plan}
+use Rattle.carry.specs.OnBytes.{left_by, left_of, Plan, plan_of, load_for, bytes_by, loads_from}
 use Rattle.carry.proofs.LoadLaws.{Goes, evenly, cut, goes, whole_long, joined-more, loads-start, loads-none, loads-plain}
 
 -- ---- what is left of the packet that some bytes end in

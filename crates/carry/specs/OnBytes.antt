@@ -1,10 +1,9 @@
 -- The same loads, as a program goes over the batch's bytes: at each place it knows how many bytes are left of the packet
 -- under way. Contracts of private functions cite this; the writer's own contract does not.
-use Rattle.std.specs.Prelude.{ℕ, zero, suc, ◌-◌, min, true, false, cond, ◌&&◌, List, [], ◌∷◌, leb, ltb, eqb, length, take, drop, Option, Some, None}
+use Rattle.std.specs.Prelude.{ℕ, zero, suc, ◌-◌, min, Bool, true, false, cond, ◌&&◌, List, [], ◌∷◌, leb, ltb, eqb, length, take, drop, Option, Some, None}
 use Rattle.packet.specs.Layout.{size_of}
 use Rattle.transport.specs.Load.{Load, plain, start}
 use Rattle.carry.specs.Loads.{follows}
-use Rattle.carry.specs.declared.Plan.{Plan}
 use Rattle.carry.specs.declared.Piece.{Piece}
 use Rattle.carry.specs.declared.Pieces.{Pieces}
 
@@ -18,6 +17,12 @@ left_by (suc k) n l =
 
 unfoldable pub left_of : ℕ → List ℕ → ℕ
 left_of n l = left_by n n l
+
+-- a transport packet: whether it has a start, how many bytes it carries, and how many are then left of the packet under way
+pub record Plan : Type 0 where
+  pub starts : Bool
+  pub bytes : ℕ
+  pub left : ℕ
 
 -- the next transport packet where l is what is left of the batch and r bytes of it belong to the packet under way:
 -- whether it has a start, how many bytes it carries, and how many are then left of the packet under way

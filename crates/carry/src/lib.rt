@@ -1,7 +1,7 @@
 // Carriage: the batch writer. A batch of T2-MI packets goes into transport packets of one PID, by 01's four cases.
 #![tactic(auto)]
 
-ghost use Rattle.std.specs.Prelude.{◌≡◌, ◌&&◌, [], ◌∷◌, ◌*◌, ◌≤◌, ◌<◌, leb, ltb, length};
+ghost use Rattle.std.specs.Prelude.{◌≡◌, ◌&&◌, [], ◌∷◌, ◌*◌, ◌≤◌, ◌<◌, leb, ltb, length, take, drop};
 ghost use Rattle.std.specs.Iterator.{YieldsFirstBy, item_count};
 ghost use Rattle.fields.specs.Formats.{pack};
 ghost use Rattle.fields.specs.Parts.{overlay};
@@ -11,7 +11,7 @@ ghost use Rattle.transport.specs.Header.{header};
 ghost use Rattle.transport.specs.Load.{control_for, head_bytes, transport_of};
 ghost use Rattle.carry.specs.Building.{blank, field_head, Held, Laid};
 ghost use Rattle.carry.specs.Carry.{carry_checks, carried_told, carry_of};
-ghost use Rattle.carry.specs.OnBytes.{left_of, plan_of, loads_from, load_in, coming};
+ghost use Rattle.carry.specs.OnBytes.{left_of, loads_from, load_in, coming};
 
 use refusals::Refusal;
 
@@ -50,15 +50,6 @@ impl From<Result<Sent, Refusal>> for Carried {
     }
 }
 
-// The next transport packet: whether it has a start, how many bytes of the batch it carries, and how many are then left of
-// the packet under way.
-#[derive(Clone, Copy)]
-struct Plan {
-    starts: bool,
-    bytes: usize,
-    left: usize,
-}
-
 // What one transport packet carries: bytes of the batch, and where in them a packet begins, if one does.
 #[derive(Clone, Copy)]
 struct Piece<'a> {
@@ -80,16 +71,17 @@ fn has_start(r: usize, rest: usize) -> bool
     r < rest && r <= 182
 }
 
-// How many bytes are left of the packet that n bytes of the batch end in, from a packet's first byte on.
-fn left_after(batch: &[u8], n: usize) -> usize
-    requires { n ≤ 183 }
-    ensures { result ≡ left_of n batch.now }
+// How many bytes are left of the packet that so many bytes of the batch end in, from a packet's first byte on.
+fn left_after(batch: &[u8], bytes: usize) -> usize
+    requires { bytes ≤ 183 }
+    ensures { result ≡ left_of bytes batch.now }
 {
     let mut end = 0;
-    while end < n {
+    // No range: each packet's own length tells where the next begins.
+    while end < bytes {
         end += packet::own_length(batch, end);
     }
-    end - n
+    end - bytes
 }
 
 impl<'a> Pieces<'a> {
@@ -103,28 +95,16 @@ impl<'a> Pieces<'a> {
         }
     }
 
-    // The next transport packet.
-    fn plan(&self) -> Plan
-        ensures { result ≡ plan_of self.now.under_way self.now.rest.now }
+    // The next n bytes, of which the packet under way then has so many left.
+    fn hand_out(&mut self, pointer: Option<u8>, n: usize, left: usize) -> Piece<'a>
+        requires { n ≤ length self.old.rest.now }
+        ensures piece { (result.pointer ≡ pointer) × (result.bytes.now ≡ take n self.old.rest.now) }
+        ensures rest { (self.new.rest.now ≡ drop n self.old.rest.now) × (self.new.under_way ≡ left) }
     {
-        let r = self.under_way;
-        let rest = self.rest.len();
-        if has_start(r, rest) {
-            let bytes = rest.min(183);
-            let left = left_after(&self.rest[r..], bytes - r);
-            return Plan {
-                starts: true,
-                bytes,
-                left,
-            };
-        }
-        let bytes = r.min(184).min(rest);
-        let left = r.saturating_sub(184);
-        Plan {
-            starts: false,
-            bytes,
-            left,
-        }
+        let (bytes, rest) = self.rest.split_at(n);
+        self.rest = rest;
+        self.under_way = left;
+        Piece { pointer, bytes }
     }
 }
 
@@ -136,19 +116,18 @@ impl<'a> Iterator for Pieces<'a> {
     ghost remaining = { item_count coming };
 
     fn next(&mut self) -> Option<Piece<'a>> {
-        if self.rest.is_empty() {
+        let r = self.under_way;
+        let rest = self.rest.len();
+        if rest == 0 {
             return None;
         }
-        let plan = self.plan();
-        let pointer = if plan.starts {
-            Some(self.under_way as u8)
-        } else {
-            None
-        };
-        let (bytes, rest) = self.rest.split_at(plan.bytes);
-        self.rest = rest;
-        self.under_way = plan.left;
-        Some(Piece { pointer, bytes })
+        if has_start(r, rest) {
+            let n = rest.min(183);
+            let left = left_after(&self.rest[r..], n - r);
+            return Some(self.hand_out(Some(r as u8), n, left));
+        }
+        let n = r.min(184).min(rest);
+        Some(self.hand_out(None, n, r.saturating_sub(184)))
     }
 }
 

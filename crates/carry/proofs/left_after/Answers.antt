@@ -45,7 +45,7 @@ overflow_add-end c =
 pub loop-end-init : goal.loop-end-init
 loop-end-init c =
     let b = c.args.batch.now in
-    let n = c.args.n in
+    let n = c.args.bytes in
     (λ h. let z : n - 0 ≡ n = omega arith in ap (λ (k : ℕ). left_of k b) z, λ h. let z : n ≡ 0 = omega arith in let y : 0 - n ≡ 0 = omega arith in y ∙ sym (left-none b) ∙ ap (λ (k : ℕ). left_of k b) (sym z))
 
 pub loop-end-smaller : goal.loop-end-smaller
@@ -55,9 +55,9 @@ pub loop-end-preserved : goal.loop-end-preserved
 loop-end-preserved c =
     let l = c.loop-end in
     let b = c.args.batch.now in
-    let h : l.end < c.args.n = c.loop-end-test.true in
+    let h : l.end < c.args.bytes = c.loop-end-test.true in
     let i = l.invariant.0 (omega arith) in
-    (upto b c.args.n l.end _ c.own_length-end.ensures h i, over b c.args.n l.end _ c.own_length-end.ensures h i)
+    (upto b c.args.bytes l.end _ c.own_length-end.ensures h i, over b c.args.bytes l.end _ c.own_length-end.ensures h i)
 
 pub returns : goal.returns
 returns c = c.loop-end.invariant.1 (omega arith)

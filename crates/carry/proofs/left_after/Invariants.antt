@@ -5,7 +5,7 @@ use Rattle.carry.proofs.left_after.Given as goal
 
 abbrev pub invariant-loop-end : goal.invariant-loop-end
 invariant-loop-end l =
-    (l.end ≤ l.n → left_of (l.n - l.end) (drop l.end l.batch) ≡ left_of l.n l.batch) × (l.n ≤ l.end → l.end - l.n ≡ left_of l.n l.batch)
+    (l.end ≤ l.bytes → left_of (l.bytes - l.end) (drop l.end l.batch) ≡ left_of l.bytes l.batch) × (l.bytes ≤ l.end → l.end - l.bytes ≡ left_of l.bytes l.batch)
 
 abbrev pub decreases-loop-end : goal.decreases-loop-end
-decreases-loop-end l = l.n - l.end
+decreases-loop-end l = l.bytes - l.end
