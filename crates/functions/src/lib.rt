@@ -228,6 +228,7 @@ fn bandwidth_number(value: u8, wait: bool) -> u64
 }
 
 // Lays a function's body over the front of out.
+#[tactic(auto, using(crate::proofs::BodyLaws::layings), unfolding(crate::specs::Function::body_of))]
 fn put_body(f: Function, bytes: &[u8], out: &mut [u8])
     requires { Writable f bytes.now out.old }
     ensures { out.new ≡ overlay 0 (body_of f bytes.now) out.old }
