@@ -18,7 +18,7 @@ use Rattle.gather.specs.Rules.{Hand, dropped, lost, misfits, out_of_turn, reache
 use Rattle.gather.specs.Gather.{in_hand}
 use Rattle.gather.specs.Phases.{numbers, hand_of, Entered}
 use Rattle.gather.specs.declared.Marks.{Marks}
-use Rattle.gather.specs.declared.Last.{Last}
+use Rattle.std.specs.Prelude.{Option}
 use Rattle.gather.specs.declared.Reader.{Reader}
 use Rattle.gather.specs.declared.Numbers.{Numbers}
 
@@ -36,7 +36,7 @@ module _ (g : List ℕ) (w : ℕ) (h : w ≤ length g) where
 
 -- ---- the rule, case by case
 
-module _ (last : Last) (count : ℕ) (h : Hand) where
+module _ (last : Option ℕ) (count : ℕ) (h : Hand) where
   pub rule-lost : out_of_turn last count ≡ true → rule_one last count h ≡ lost h
   unfolding rule_one
   rule-lost b = rw (b, nothing-reaches)
