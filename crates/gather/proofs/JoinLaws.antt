@@ -7,8 +7,8 @@ use Prim.Native.Nat.{ℕ, ◌+◌, ◌-◌, ◌≤◌, ◌<◌}
 use native.Mathlib.Nat.{zero-add, suc-ne-zero}
 use native.Mathlib.Omega.{arith}
 use lib.Dec.{leb}
-use lib.ListN.{length, get_or, take, drop, length-append, length-drop, get_or-append, get_or-eq_default}
-use lib.Seq.{length-take-le, drop-drop, get_or-take, get_or-append-add, take_all, take-append-add}
+use lib.ListN.{length, take, drop, length-append, length-drop}
+use lib.Seq.{length-take-le, drop-drop, take_all, take-append-add}
 use borrow.Author.Tests.{eq-eqb, ne_eqb, eqb-true, leb-true, leb-false}
 use Rattle.crc.specs.Crc.{crc_holds}
 use Rattle.fields.specs.Numbers.{Bytes}
@@ -27,20 +27,6 @@ use Rattle.gather.specs.Theorems.{Front, nothing, finished-one}
 use Rattle.gather.specs.declared.Numbers.{Numbers}
 
 -- ---- waiting bytes with new ones behind them
-
-module _ (g : List ℕ) (w : ℕ) (d : List ℕ) (h : w ≤ length g) where
-  pub get_or-waiting : (k : ℕ) → k < w → get_or (take w g ++ d) k 0 ≡ get_or g k 0
-  get_or-waiting k i =
-      get_or-append (take w g) d 0 k (rw (length-take-le w g h) i) ∙ get_or-take w g k 0 i
-
-  pub get_or-new : (k : ℕ) → w ≤ k → get_or (take w g ++ d) k 0 ≡ get_or d (k - w) 0
-  get_or-new k i =
-      let e : length (take w g) ≡ w = length-take-le w g h in
-      let f : k ≡ length (take w g) + (k - w) = rw e (omega arith) in
-      ap (λ (j : ℕ). get_or (take w g ++ d) j 0) f ∙ get_or-append-add (take w g) d (k - w) 0
-
-  pub get_d_past : (k : ℕ) → w + length d ≤ k → get_or (take w g ++ d) k 0 ≡ 0
-  get_d_past k i = get_or-eq_default (take w g ++ d) 0 (rw (length-append (take w g) d, length-take-le w g h) i)
 
 pub length-zero : (l : List ℕ) → length l ≡ 0 → l ≡ []
 length-zero [] e = refl
