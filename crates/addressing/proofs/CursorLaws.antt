@@ -8,6 +8,9 @@ use native.Mathlib.Omega.{arith}
 use lib.Dec.{eqb, leb, ltb}
 use lib.ListN.{length, take, drop, length-drop}
 use lib.Seq.{drop-drop}
+use Rattle.std.specs.Prelude.{Option, Some, None}
+use Rattle.std.specs.Bool.{then_some}
+use Rattle.std.specs.Option.{option_or}
 use borrow.Author.Tests.{ltb-true, ltb-false, leb-true, leb-false, le-ltb, le-leb, lt-leb, eqb-true, eqb-false, ne_eqb}
 use Rattle.fields.specs.Parts.{part}
 use Rattle.fields.proofs.Cases.{cases}
@@ -16,16 +19,13 @@ use Rattle.refusals.specs.Checks.{◌when◌, found, first}
 use Rattle.refusals.specs.Answers.{answer}
 use Rattle.addressing.proofs.EntryLaws.{entries_none, entries-stop, entries-on}
 use Rattle.addressing.proofs.DataLaws.{group-whole, group-fits, function-whole, function-fits}
-use Rattle.addressing.specs.Cursor.{group_header, function_header, header_at, unseen, seen_after, answer_of, pass_checks, pass_of}
-use Rattle.addressing.specs.Data.{Entries, no_fault, none, on_top, entries_in, owner_of, loop_length, group_size, group_checks, group_at, group, body_length, function_size, function_checks, Placed, end_of, function_at, function, groups_in, loop_in, functions_of, fault_in, fault_of}
-use Rattle.addressing.specs.Walk.{hears, heard_of, functions_for, ends_at, reached, given, step_in, refused, walk_checks, walk_of}
+use Rattle.addressing.specs.Cursor.{group_header, function_header, header_at, unseen, seen_after, first_or, answer_of, Passed, pass_checks, pass_of, Header}
+use Rattle.addressing.specs.Data.{Fault, Entries, no_fault, none, on_top, entries_in, owner_of, loop_length, group_size, group_checks, group_at, group, body_length, function_size, function_checks, Placed, end_of, function_at, function, groups_in, loop_in, functions_of, fault_in, fault_of}
+use Rattle.addressing.specs.Walk.{Walked, hears, heard_of, functions_for, ends_at, reached, step_in, refused, answered, walk_checks, walk_of}
 use Rattle.addressing.specs.declared.Cursor.{Cursor}
-use Rattle.addressing.specs.declared.Fault.{Fault}
-use Rattle.addressing.specs.declared.Header.{Header}
-use Rattle.addressing.specs.declared.Header.TheVariants as header
-use Rattle.addressing.specs.declared.Passed.{Passed}
+use Rattle.addressing.specs.Cursor as header
 use Rattle.addressing.specs.declared.Seen.{Seen}
-use Rattle.addressing.specs.declared.Walked.{Walked}
+use Rattle.addressing.specs.declared.Walked.{Walked as CodeWalked}
 
 -- ---- what is left of the data at a cursor: its fault, and the functions for the transmitter
 
@@ -185,10 +185,10 @@ or_swap false true false e = refl
 or_swap false false true e = refl
 or_swap false false false e = refl
 
-first_found : (found here : Bool) (w f x : Walked) → cond found w (cond here f x) ≡ cond (found || here) (cond found w (cond here f w)) x
-first_found true here w f x = refl
-first_found false true w f x = refl
-first_found false false w f x = refl
+first_found : (seen : Option CodeWalked) (here : Bool) (w : CodeWalked) (x : Walked) → first_or seen (cond here (answered w) x) ≡ first_or (option_or seen (then_some here w)) x
+first_found (Some f) here w x = refl
+first_found None true w x = refl
+first_found None false w x = refl
 
 leb-two : (a b : ℕ) → leb (a + 2) (b + 2) ≡ leb a b
 leb-two a b =
@@ -196,23 +196,27 @@ leb-two a b =
     (λ t. le-leb (a + 2) (b + 2) (omega (arith, leb-true a b t)) ∙ sym t)
     (λ t. lt-leb (a + 2) (b + 2) (omega (arith, leb-false a b t)) ∙ sym t)
 
-module _ (place end : ℕ) where
+-- the answer of a walk that gives a function
+abbrev pub given_walk : (at tag body : ℕ) → CodeWalked
+given_walk at tag body = record { next = at + 2 + body; step = Some (record { tag = tag; start = at + 2; body = body }) }
+
+module _ (end : ℕ) where
   abbrev answer_from : Seen → List Placed → Walked
   answer_from s fs =
-      cond (s.reached || eqb place end || ends_at place fs) (cond s.found s.walked (step_in fs place end)) (refused 38)
+      cond (s.reached || eqb s.place end || ends_at s.place fs) (first_or s.first (step_in fs s.place end)) (refused 38)
 
-  answer-none : (s : Seen) → answer_from s [] ≡ answer_of place end s
-  unfolding ends_at step_in answer_of
-  answer-none s = rw (or-false (s.reached || eqb place end))
+  answer-none : (s : Seen) → answer_from s [] ≡ answer_of end s
+  unfolding ends_at step_in
+  answer-none s = rw (or-false (s.reached || eqb s.place end))
 
   answer-on : (s : Seen) (at tag body : ℕ) (fs : List Placed)
-      → let f : Placed = record { tag = tag; start = at + 2; body = body } in answer_from s (f ∷ fs) ≡ answer_from (seen_after true place at (given f) s) fs
-  unfolding ends_at step_in seen_after
+      → let f : Placed = record { tag = tag; start = at + 2; body = body } in answer_from s (f ∷ fs) ≡ answer_from (seen_after true at (given_walk at tag body) s) fs
+  unfolding ends_at step_in
   answer-on s at tag body fs =
       let f : Placed = record { tag = tag; start = at + 2; body = body } in
       ap₂ (λ (t : Bool) (w : Walked). cond t w (refused 38))
-      (or_swap s.reached (eqb place end) (eqb place (end_of f)) (ends_at place fs))
-      (rw (leb-two place at) (first_found s.found (leb place at) s.walked (given f) (step_in fs place end)))
+      (or_swap s.reached (eqb s.place end) (eqb s.place (end_of f)) (ends_at s.place fs))
+      (rw (leb-two s.place at) (first_found s.first (leb s.place at) (given_walk at tag body) (step_in fs s.place end)))
 
   -- what a pass tells: of what it has seen, and of what is left
   abbrev pub told : Seen → Left → Passed
@@ -222,7 +226,7 @@ module _ (place end : ℕ) where
         walked = cond (eqb left.fault.refusal 0) (answer_from s left.functions) (refused left.fault.refusal);
       }
 
-  pub told-nothing : (s : Seen) (left : Left) → left ≡ record { fault = no_fault; functions = [] } → told s left ≡ record { fault = no_fault; walked = answer_of place end s }
+  pub told-nothing : (s : Seen) (left : Left) → left ≡ record { fault = no_fault; functions = [] } → told s left ≡ record { fault = no_fault; walked = answer_of end s }
   told-nothing s left e = ap (told s) e ∙ ap (λ (w : Walked). record { fault = no_fault; walked = w }) (answer-none s)
 
   pub told-bad : (s : Seen) (left : Left) (n at : ℕ) → left.fault ≡ record { refusal = n; place = at } → (n ≡ 0 → ⊥)
@@ -231,8 +235,7 @@ module _ (place end : ℕ) where
 
   pub told-function : (s : Seen) (heard : Bool) (at tag body : ℕ) (on : Left)
       → let f : Placed = record { tag = tag; start = at + 2; body = body } in
-      told s (record { fault = on.fault; functions = cond heard (f ∷ on.functions) on.functions }) ≡ told (seen_after heard place at (given f) s) on
-  unfolding seen_after
+      told s (record { fault = on.fault; functions = cond heard (f ∷ on.functions) on.functions }) ≡ told (seen_after heard at (given_walk at tag body) s) on
   told-function s true at tag body on =
       ap (λ (w : Walked). record { fault = on.fault; walked = cond (eqb on.fault.refusal 0) w (refused on.fault.refusal) }) (answer-on s at tag body on.functions)
   told-function s false at tag body on = refl
@@ -243,11 +246,11 @@ two-checks n true x = cases (eqb n 0) (λ t. simp t) (λ t. simp t)
 two-checks n false x = cases (eqb n 0) (λ t. simp t) (λ t. simp t)
 
 -- at the start nothing is seen, and all is left
-pub told-all : (own : ℕ) (d : List ℕ) (tx place : ℕ) → told place (length d) (unseen place) (left_of own tx d (record { at = 0; end = 0; owner = 0 })) ≡ pass_of own d tx place
-unfolding pass_of pass_checks unseen fault_of functions_for reached
+pub told-all : (own : ℕ) (d : List ℕ) (tx place : ℕ) → told (length d) (unseen place) (left_of own tx d (record { at = 0; end = 0; owner = 0 })) ≡ pass_of own d tx place
+unfolding pass_of pass_checks fault_of functions_for reached
 told-all own d tx place =
     let fs = functions_for own tx d in
-    ap (told place (length d) (unseen place)) (loop-over own tx d (record { at = 0; end = 0; owner = 0 }) (omega arith) (omega arith) (omega arith))
+    ap (told (length d) (unseen place)) (loop-over own tx d (record { at = 0; end = 0; owner = 0 }) (omega arith) (omega arith) (omega arith))
     ∙ ap (λ (w : Walked). record { fault = fault_of own d; walked = w }) (two-checks (fault_of own d).refusal (reached own tx d place) (step_in fs place (length d)))
 
 -- so a pass over data that is not too long tells what the walk answers

@@ -15,10 +15,9 @@ use Rattle.fields.proofs.Cases.{cases, true≢false}
 use Rattle.refusals.specs.Checks.{first}
 use Rattle.refusals.proofs.CheckLaws.{none-holds}
 use Rattle.addressing.proofs.EntryLaws.{Fits, entries-rule}
-use Rattle.addressing.specs.Data.{Entry, loop_length, group_size, group_checks, group_at, group, function_size, function_checks, Placed, end_of, function, entries_in, groups_in, loop_in, functions_of, fault_in, fault_of}
+use Rattle.addressing.specs.Data.{Entry, loop_length, group_size, group_checks, group_at, group, function_size, function_checks, Placed, end_of, function, entries_in, groups_in, loop_in, functions_of, fault_in, fault_of, Fault}
 use Rattle.addressing.specs.Groups.{Points, loop_end}
 use Rattle.addressing.specs.Walk.{hears, heard_of, functions_for}
-use Rattle.addressing.specs.declared.Fault.{Fault}
 
 -- where one test or another fails, both do
 pub neither : (a b : Bool) → (a || b) ≡ false → (a ≡ false) × (b ≡ false)

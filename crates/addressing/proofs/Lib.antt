@@ -8,3 +8,4 @@ pub mod StepLaws
 pub mod CursorLaws
 pub mod GroupLaws
 pub mod RowLaws
+pub mod ExitLaws

@@ -13,8 +13,7 @@ use Rattle.refusals.proofs.AnswerLaws.{answer-accepted, answer-refused, answer-s
 use Rattle.refusals.proofs.CheckLaws.{none-holds, not_found}
 use Rattle.addressing.proofs.DataLaws.{neither}
 use Rattle.addressing.specs.Data.{fault_of}
-use Rattle.addressing.specs.Payload.{data_of, payload_checks, payload_of, data_read, write_checks, payload_bytes, write_of}
-use Rattle.addressing.specs.declared.PayloadRead.{PayloadRead}
+use Rattle.addressing.specs.Payload.{data_of, payload_checks, payload_of, data_read, write_checks, payload_bytes, write_of, PayloadRead}
 
 -- ---- what is known of a payload that is read
 

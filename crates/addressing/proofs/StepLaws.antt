@@ -9,13 +9,13 @@ use lib.ListN.{length}
 use denote.Ref.{Bor}
 use borrow.Author.Tests.{eqb-true, eqb-false, eq-eqb, ne_eqb}
 use Rattle.fields.proofs.Cases.{cases}
+use Rattle.refusals.specs.Refusals.{number_of}
+use Rattle.refusals.specs.declared.Refusal.{Refusal}
+use Rattle.refusals.proofs.NumberLaws.{number-not-0}
 use Rattle.addressing.proofs.WalkLaws.{walk-shows, walk_refused, walk-ended, walk-all}
 use Rattle.addressing.specs.Data.{house, fault_of}
-use Rattle.addressing.specs.Steps.{place_after, taken_of, fresh_walk, moved_to, found_by, stepped_of, steps_by}
-use Rattle.addressing.specs.Walk.{functions_for, given, ended, refused, walk_of, unless_end, answers_by}
-use Rattle.addressing.specs.declared.Walked.{Walked}
-use Rattle.addressing.specs.declared.walks.Stepped.{Stepped}
-use Rattle.addressing.specs.declared.walks.Taken.{Taken}
+use Rattle.addressing.specs.Steps.{place_after, fresh_walk, moved_to, found_by, stepped_of, steps_by, Stepped}
+use Rattle.addressing.specs.Walk.{functions_for, given, ended, refused, walk_of, unless_end, answers_by, Walked}
 use Rattle.addressing.specs.declared.walks.Walk.{Walk}
 
 -- ---- where a walk goes on from
@@ -27,18 +27,6 @@ after-refusal w at h = rw (ne_eqb w.refusal 0 h)
 after-answer : (w : Walked) (at : ℕ) → w.refusal ≡ 0 → place_after w at ≡ w.next
 unfolding place_after
 after-answer w at h = rw (eq-eqb w.refusal 0 h)
-
--- ---- a step on slice and numbers, from what `walk` answered
-
-abbrev taken : Walked → ℕ → Taken
-taken w at = record { answer = w; at = at }
-
-module _ (d : List ℕ) (tx at : ℕ) (w : Walked) (e : w ≡ walk_of house d tx at) where
-  pub taken_refused : (w.refusal ≡ 0 → ⊥) → taken w at ≡ taken_of d tx at
-  taken_refused h = ap (taken w) (sym (after-refusal w at h)) ∙ ap (λ (x : Walked). taken x (place_after x at)) e
-
-  pub taken-given : w.refusal ≡ 0 → taken w w.next ≡ taken_of d tx at
-  taken-given h = ap (taken w) (sym (after-answer w at h)) ∙ ap (λ (x : Walked). taken x (place_after x at)) e
 
 -- ---- a step
 
@@ -62,6 +50,17 @@ module _ (w : Walk) where
   -- so another step is refused in the same way
   pub refused-again : ((found_by w).refusal ≡ 0 → ⊥) → stepped_of (stepped_of w).walk ≡ stepped_of w
   refused-again h = ap (λ (s : Stepped). stepped_of s.walk) (step-refused h)
+
+-- ---- a step, from what `walk` answered
+
+module _ (w : Walk) (x : Walked) where
+  pub taken-given : x.refusal ≡ 0 → x ≡ found_by w → record { answer = x; walk = moved_to w x.next } ≡ stepped_of w
+  taken-given z e = λ i. record { answer = e i; walk = moved_to w ((sym (after-answer x w.at z) ∙ ap (λ (y : Walked). place_after y w.at) e) i) }
+
+pub taken_refused : (w : Walk) (e : Refusal) → refused (number_of e) ≡ found_by w → record { answer = refused (number_of e); walk = w } ≡ stepped_of w
+taken_refused w r e =
+    let x = refused (number_of r) in
+    λ i. record { answer = e i; walk = moved_to w ((sym (after-refusal x w.at (number-not-0 r)) ∙ ap (λ (y : Walked). place_after y w.at) e) i) }
 
 -- ---- a whole walk by steps
 

@@ -15,8 +15,7 @@ use Rattle.refusals.specs.Answers.{answer}
 use Rattle.refusals.proofs.AnswerLaws.{answer-shows, answer-refused}
 use Rattle.addressing.proofs.DataLaws.{Rising, rising-upto, for-rising}
 use Rattle.addressing.specs.Data.{Placed, end_of, fault_of}
-use Rattle.addressing.specs.Walk.{functions_for, ends_at, reached, given, ended, step_in, refused, walk_checks, walk_of, answers_by}
-use Rattle.addressing.specs.declared.Walked.{Walked}
+use Rattle.addressing.specs.Walk.{functions_for, ends_at, reached, given, ended, step_in, refused, walk_checks, walk_of, answers_by, Walked}
 
 module _ (own : ℕ) where
   -- data that is too long

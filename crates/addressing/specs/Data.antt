@@ -3,11 +3,12 @@
 --
 -- Whatever looks at a function_length takes `own`: how many of the function's own two bytes before its body, tag and length, it
 -- counts. By the house rule both (functions, `house`).
-use Rattle.std.specs.Prelude.{ℕ, zero, suc, ◌+◌, ◌-◌, ◌*◌, Bool, cond, ◌||◌, List, [], ◌∷◌, ◌++◌, eqb, ltb, length, get_or, take, drop}
+use Rattle.std.specs.Prelude.{ℕ, zero, suc, ◌+◌, ◌-◌, ◌*◌, Bool, cond, ◌||◌, List, [], ◌∷◌, ◌++◌, eqb, ltb, length, get_or, take, drop, Result, Ok, Err}
 use Rattle.refusals.specs.Checks.{Check, ◌when◌, found, first}
 use Rattle.functions.specs.Tags.{body_wrong, bandwidth_reserved}
 pub use Rattle.functions.specs.Tags.{house}
-use Rattle.addressing.specs.declared.Fault.{Fault}
+use Rattle.refusals.specs.Refusals.{number_of}
+use Rattle.addressing.specs.declared.Fault.{Fault as CodeFault}
 
 -- ---- a group at the front of what is left of the data: tx_identifier 16, function_loop_length 8, functions
 
@@ -78,6 +79,11 @@ pub record Entry (A : Type 0) : Type 0 where
   pub size : List ℕ → ℕ  -- how many bytes it takes
   pub read : ℕ → List ℕ → A  -- what it is, at a place
 
+-- a fault: its number, and the place of the header where it is; 0 and 0 where there is none
+pub record Fault : Type 0 where
+  pub refusal : ℕ
+  pub place : ℕ
+
 -- entries up to the first bad one, and its fault
 pub record Entries (A : Type 0) : Type 0 where
   pub entries : List A
@@ -143,6 +149,14 @@ fault_in own (g ∷ gs) after =
 -- and 0 where it is good. What follows the whole groups is a cut one or nothing
 unfoldable pub fault_of : ℕ → List ℕ → Fault
 fault_of own d = fault_in own (groups_of d) (groups_in 0 d).fault
+
+-- what a result of `check` stands for
+abbrev pub fault_from : CodeFault → Fault
+fault_from f = record { refusal = number_of f.refusal; place = f.place }
+
+abbrev pub fault_told : {A : Type 0} → Result A CodeFault → Fault
+fault_told (Ok a) = no_fault
+fault_told (Err f) = fault_from f
 
 -- the same in a list of checks: a fault's number, where there is one
 abbrev pub fault : ℕ → List ℕ → Check

@@ -2,9 +2,8 @@
 -- in the data, and a transmitter gets the same of all data that agree on the groups it hears.
 use Rattle.std.specs.Prelude.{ℕ, ◌+◌, ◌≤◌, ◌<◌, ◌≡◌, List, [], ◌∷◌, map, length}
 use Rattle.fields.specs.Parts.{part}
-use Rattle.addressing.specs.Data.{Group, Placed, end_of, groups_of, loop_in}
+use Rattle.addressing.specs.Data.{Group, Placed, end_of, groups_of, loop_in, Fault}
 use Rattle.addressing.specs.Walk.{heard_of}
-use Rattle.addressing.specs.declared.Fault.{Fault}
 
 -- ---- a fault's place is 0 where there is none, and else that of a byte before `end`
 

@@ -1,9 +1,9 @@
 -- The addressing payload of a T2-MI packet (type 0x21): reserved 8, length 8, and that many bytes of data.
-use Rattle.std.specs.Prelude.{ℕ, ◌+◌, Bool, not, ◌||◌, List, [], ◌∷◌, eqb, ltb, length, get_or, drop}
+use Rattle.std.specs.Prelude.{ℕ, ◌+◌, Bool, not, ◌||◌, List, [], ◌∷◌, eqb, ltb, length, get_or, drop, Result}
 use Rattle.refusals.specs.Checks.{Check, ◌when◌}
-use Rattle.refusals.specs.Answers.{answer, Wrote, written}
+use Rattle.refusals.specs.Answers.{answer, told, Wrote, written}
+use Rattle.refusals.specs.declared.Refusal.{Refusal}
 use Rattle.addressing.specs.Data.{fault}
-use Rattle.addressing.specs.declared.PayloadRead.{PayloadRead}
 
 -- under 2 bytes, or not 2 plus its length byte (01, refusal 23)
 abbrev pub size_wrong : List ℕ → Bool
@@ -20,7 +20,15 @@ payload_checks own p =
     ∷ fault own (data_of p)
     ∷ []
 
--- how many bytes of data there are
+-- how many bytes of data there are; with a refusal its number, and 0
+pub record PayloadRead : Type 0 where
+  pub refusal : ℕ
+  pub bytes : ℕ
+
+-- what a result of `payload_read` stands for
+abbrev pub payload_told : Result ℕ Refusal → PayloadRead
+payload_told r = told (λ n. record { refusal = n; bytes = 0 }) (λ b. record { refusal = 0; bytes = b }) r
+
 unfoldable pub payload_of : ℕ → List ℕ → PayloadRead
 payload_of own p =
     answer (payload_checks own p)

@@ -1,11 +1,8 @@
 -- Small data and the fault of each with its place, one row for each way in which data is good or bad; and walks of one small data. All
 -- by the house rule.
 use Rattle.std.specs.Prelude.{ℕ, ◌≡◌, List, [], ◌∷◌}
-use Rattle.addressing.specs.Data.{house, fault_of}
-use Rattle.addressing.specs.Walk.{ended, refused, walk_of}
-use Rattle.addressing.specs.declared.Fault.{Fault}
-use Rattle.addressing.specs.declared.Step.TheVariants.{Given}
-use Rattle.addressing.specs.declared.Walked.{Walked}
+use Rattle.addressing.specs.Data.{house, fault_of, Fault}
+use Rattle.addressing.specs.Walk.{ended, refused, walk_of, Given, Walked}
 
 pub record Row : Type 0 where
   pub bytes : List ℕ

@@ -1,20 +1,17 @@
 -- A walk that keeps the caller's addressing bytes and its place, and what a step of it gives: what `walk_of` says at that
 -- place by the house rule, and the walk at the next one.
-use Rattle.std.specs.Prelude.{ℕ, zero, suc, cond, List, [], ◌∷◌, eqb}
+use Rattle.std.specs.Prelude.{ℕ, zero, suc, cond, List, [], ◌∷◌, eqb, Option, Result}
 use Rattle.std.specs.Borrow.{Bor}
 use Rattle.addressing.specs.Data.{house}
-use Rattle.addressing.specs.Walk.{walk_of, unless_end}
-use Rattle.addressing.specs.declared.Walked.{Walked}
-use Rattle.addressing.specs.declared.walks.Taken.{Taken}
+use Rattle.refusals.specs.Answers.{told}
+use Rattle.refusals.specs.declared.Refusal.{Refusal}
+use Rattle.addressing.specs.Walk.{Walked, refused, walk_of, unless_end, step_found}
+use Rattle.addressing.specs.declared.Given.{Given}
 use Rattle.addressing.specs.declared.walks.Walk.{Walk}
-use Rattle.addressing.specs.declared.walks.Stepped.{Stepped}
 
 -- where a walk goes on from: the place that the answer names, or with a refusal the same place (01, "hands back the old state")
 unfoldable pub place_after : Walked → ℕ → ℕ
 place_after w at = cond (eqb w.refusal 0) w.next at
-
-abbrev pub taken_of : List ℕ → ℕ → ℕ → Taken
-taken_of d tx at = record { answer = walk_of house d tx at; at = place_after (walk_of house d tx at) at }
 
 -- a walk for a transmitter starts at 0
 abbrev pub fresh_walk : Bor (List ℕ) → ℕ → Walk
@@ -26,6 +23,15 @@ moved_to w place = record { «data» = w.«data»; transmitter = w.transmitter; 
 
 abbrev pub found_by : Walk → Walked
 found_by w = walk_of house w.«data».now w.transmitter w.at
+
+-- what a step gives: what the walk found, and the walk at the next place; with a refusal, the walk where it was
+pub record Stepped : Type 0 where
+  pub answer : Walked
+  pub walk : Walk
+
+-- what a result of `step` stands for, where the walk is then at place `next`
+abbrev pub step_told : ℕ → Result (Option Given) Refusal → Walked
+step_told next r = told refused (λ s. record { refusal = 0; next = next; step = step_found s }) r
 
 abbrev pub stepped_of : Walk → Stepped
 stepped_of w = record { answer = found_by w; walk = moved_to w (place_after (found_by w) w.at) }

@@ -1,11 +1,11 @@
 -- The walk for one transmitter: the functions of its own groups and of the broadcast groups, in order, one at each call.
-use Rattle.std.specs.Prelude.{ℕ, zero, suc, ◌+◌, Bool, false, cond, not, ◌||◌, List, [], ◌∷◌, eqb, leb, ltb, length}
+use Rattle.std.specs.Prelude.{ℕ, zero, suc, ◌+◌, Bool, false, cond, not, ◌||◌, List, [], ◌∷◌, eqb, leb, ltb, length, Option, Some, None, Result}
 use Rattle.refusals.specs.Checks.{Check, ◌when◌}
-use Rattle.refusals.specs.Answers.{answer}
+use Rattle.refusals.specs.Answers.{answer, told}
+use Rattle.refusals.specs.declared.Refusal.{Refusal}
 use Rattle.addressing.specs.Data.{Group, Placed, end_of, groups_of, functions_of, fault}
-use Rattle.addressing.specs.declared.Step.{Step}
-use Rattle.addressing.specs.declared.Step.TheVariants.{Given, End}
-use Rattle.addressing.specs.declared.Walked.{Walked}
+use Rattle.addressing.specs.declared.Given.{Given as CodeGiven}
+use Rattle.addressing.specs.declared.Walked.{Walked as CodeWalked}
 
 -- a group's identifier is heard by this transmitter: it is its own, or broadcast 0x0000
 abbrev pub hears : ℕ → ℕ → Bool
@@ -30,6 +30,17 @@ reached own tx d place = eqb place 0 || eqb place (length d) || ends_at place (f
 
 -- ---- what it gives there: the first of these functions that begins at the place or after it
 
+-- a function, whose body is `body` bytes from `start` on, or the data's end
+pub data Step : Type 0 where
+  Given : (tag start body : ℕ) → Step
+  End : Step
+
+-- a walk's answer: what it found, and the place to walk on from; with a refusal its number, 0 and no function
+pub record Walked : Type 0 where
+  pub refusal : ℕ
+  pub next : ℕ
+  pub step : Step
+
 abbrev pub given : Placed → Walked
 given f = record { refusal = 0; next = end_of f; step = Given f.tag f.start f.body }
 
@@ -44,6 +55,17 @@ step_in (f ∷ fs) place end = let on = step_in fs place end in cond (leb (place
 
 abbrev pub refused : ℕ → Walked
 refused n = record { refusal = n; next = 0; step = End }
+
+-- what the result of a walk stands for
+abbrev pub step_found : Option CodeGiven → Step
+step_found None = End
+step_found (Some g) = Given g.tag g.start g.body
+
+abbrev pub answered : CodeWalked → Walked
+answered w = record { refusal = 0; next = w.next; step = step_found w.step }
+
+abbrev pub walked_told : Result CodeWalked Refusal → Walked
+walked_told r = told refused answered r
 
 -- each call judges all the data, then its place
 unfoldable pub walk_checks : ℕ → List ℕ → ℕ → ℕ → List Check

@@ -5,42 +5,44 @@ mod walks;
 
 ghost use Rattle.std.specs.Prelude.{◌≡◌, ◌||◌, ◌≤◌, eqb, length};
 ghost use Rattle.refusals.specs.Checks.{first};
-ghost use Rattle.addressing.specs.Data.{house, group_cut, body_length, function_cut, function_checks, fault_of};
-ghost use Rattle.addressing.specs.Payload.{size_wrong, payload_checks, payload_of, data_read, write_checks, write_of};
-ghost use Rattle.addressing.specs.Walk.{hears as heard_by, refused, walk_of};
-ghost use Rattle.addressing.specs.Cursor.{group_header, function_header, header_at, unseen as unseen_at, seen_after, answer_of, pass_of};
+ghost use Rattle.refusals.specs.Answers.{code, bytes_of};
+ghost use Rattle.addressing.specs.Data.{house, group_cut, body_length, function_cut, function_checks, fault_of, fault_told};
+ghost use Rattle.addressing.specs.Payload.{size_wrong, payload_checks, payload_of, payload_told, data_read, write_checks, write_of};
+ghost use Rattle.addressing.specs.Walk.{hears as heard_by, walk_of, walked_told};
+ghost use Rattle.addressing.specs.Cursor.{header_told, group_header, function_header, header_at, unseen, seen_after, answer_of, passed_told, pass_of};
 
-use refusals::Written;
-pub use walks::{Stepped, Walk, walk_from};
+use refusals::Refusal;
+pub use walks::{Walk, walk_from};
 
-// What reading a payload gives: how many bytes of data follow its first two.
-#[derive(Clone, Copy)]
-pub struct PayloadRead {
-    pub refusal: u32,
-    pub bytes: usize,
-}
-
-// The first fault of addressing data in byte order: its number, and the byte, counted from the data's first, of the group or function
-// header where the check stopped. Both are 0 where the data is good.
-#[derive(Clone, Copy)]
+// The first fault of addressing data in byte order: why it is refused, and the byte, counted from the data's first, of the group or function
+// header where the check stopped.
+#[derive(Clone, Copy, Debug, PartialEq, Eq)]
 pub struct Fault {
-    pub refusal: u32,
+    pub refusal: Refusal,
     pub place: usize,
 }
 
-// What a walk finds at a place: a function, whose body is data[start .. start + body], or the data's end.
-#[derive(Clone, Copy)]
-pub enum Step {
-    Given { tag: u8, start: usize, body: usize },
-    End,
+impl From<Fault> for Refusal {
+    ghost from_gives = { λ fault refusal. refusal ≡ fault.refusal };
+
+    fn from(fault: Fault) -> Refusal {
+        fault.refusal
+    }
 }
 
-// A walk's answer: what it found, and the place to walk on from.
-#[derive(Clone, Copy)]
+// A function that a walk gives: its tag, and its body, which is data[start .. start + body].
+#[derive(Clone, Copy, Debug, PartialEq, Eq)]
+pub struct Given {
+    pub tag: u8,
+    pub start: usize,
+    pub body: usize,
+}
+
+// A walk's answer: the function that it found, or none at the data's end, and the place to walk on from.
+#[derive(Clone, Copy, Debug, PartialEq, Eq)]
 pub struct Walked {
-    pub refusal: u32,
     pub next: usize,
-    pub step: Step,
+    pub step: Option<Given>,
 }
 
 // Where a pass over the data is: its place, and the end and the owner of the loop that it is in or has just left.
@@ -51,30 +53,20 @@ struct Cursor {
     owner: u16,
 }
 
-// The header at a cursor: a group's, with how many bytes its loop has; a function's, with how many its body has; one with a fault; or none,
-// at the data's end.
+// A header: a group's, with how many bytes its loop has, or a function's, with how many its body has.
 #[derive(Clone, Copy)]
 enum Header {
     Group { owner: u16, bytes: usize },
     Function { tag: u8, body: usize },
-    Bad(u32),
-    Nothing,
 }
 
-// What a walk has seen of the functions for its transmitter: whether it reaches its place, whether one begins there or later, and the
-// answer for the first such.
+// What a walk from a place has seen of the functions for its transmitter: whether it reaches the place, and the answer for the first
+// function that begins there or later.
 #[derive(Clone, Copy)]
 struct Seen {
+    place: usize,
     reached: bool,
-    found: bool,
-    walked: Walked,
-}
-
-// What a pass over all of the data gives: the data's fault, and the walk's answer.
-#[derive(Clone, Copy)]
-struct Passed {
-    fault: Fault,
-    walked: Walked,
+    first: Option<Walked>,
 }
 
 // The house rule: function_length counts both of the function's own bytes before its body, tag and length (01). Every function that looks at
@@ -85,224 +77,137 @@ const HOUSE: u8 = 2;
 fn body_length(l: &[u8], own: u8) -> usize
     ensures { result ≡ body_length own l.now }
 {
-    let n = fields::byte_at(l, 1);
-    if n < own {
-        return 0;
-    }
-    (n - own) as usize
+    usize::from(fields::byte_at(l, 1).saturating_sub(own))
 }
 
 // Whether the function at the front of l, which is what is left of its loop, is cut.
 fn function_cut(l: &[u8], own: u8) -> bool
     ensures { result ≡ function_cut own l.now }
 {
-    if l.len() < 2 {
-        return true;
-    }
-    if fields::byte_at(l, 1) < own {
-        return true;
-    }
-    l.len() < 2 + body_length(l, own)
+    l.len() < 2 || fields::byte_at(l, 1) < own || l.len() < 2 + body_length(l, own)
 }
 
-// The number of the first fault of the function at the front of l, or 0.
-fn function_fault(l: &[u8], own: u8) -> u32
-    ensures { result ≡ first (function_checks own l.now) }
+// Refuses the function at the front of l where it has a fault.
+fn check_function(l: &[u8], own: u8) -> Result<(), Refusal>
+    ensures { code result ≡ first (function_checks own l.now) }
 {
     if function_cut(l, own) {
-        return refusals::FUNCTION_CUT;
+        return Err(Refusal::FunctionCut);
     }
     let tag = fields::byte_at(l, 0);
     if functions::body_wrong(tag, body_length(l, own)) {
-        return refusals::FUNCTION_LENGTH_WRONG;
+        return Err(Refusal::FunctionLengthWrong);
     }
     if functions::bandwidth_reserved(tag, fields::byte_at(l, 2)) {
-        return refusals::BANDWIDTH_VALUE_RESERVED;
+        return Err(Refusal::BandwidthValueReserved);
     }
-    0
+    Ok(())
 }
 
 // The header of the function at the front of l.
-fn function_header(l: &[u8], own: u8) -> Header
-    ensures { result ≡ function_header own l.now }
+fn function_header(l: &[u8], own: u8) -> Result<Option<Header>, Refusal>
+    ensures { header_told result ≡ function_header own l.now }
 {
-    let refusal = function_fault(l, own);
-    if refusal != 0 {
-        return Header::Bad(refusal);
-    }
+    check_function(l, own)?;
     let tag = fields::byte_at(l, 0);
     let body = body_length(l, own);
-    Header::Function { tag, body }
+    Ok(Some(Header::Function { tag, body }))
 }
 
 // Whether the group at the front of l, which is what is left of the data, is cut.
 fn group_cut(l: &[u8]) -> bool
     ensures { result ≡ group_cut l.now }
 {
-    if l.len() < 3 {
-        return true;
-    }
-    l.len() < 3 + fields::byte_at(l, 2) as usize
+    l.len() < 3 || l.len() < 3 + usize::from(fields::byte_at(l, 2))
 }
 
 // The header of the group at the front of l.
-fn group_header(l: &[u8]) -> Header
-    ensures { result ≡ group_header l.now }
+fn group_header(l: &[u8]) -> Result<Option<Header>, Refusal>
+    ensures { header_told result ≡ group_header l.now }
 {
     if group_cut(l) {
-        return Header::Bad(refusals::GROUP_CUT);
+        return Err(Refusal::GroupCut);
     }
-    let owner = fields::byte_at(l, 0) as u16 * 256 + fields::byte_at(l, 1) as u16;
-    let bytes = fields::byte_at(l, 2) as usize;
-    Header::Group { owner, bytes }
+    let owner = u16::from(fields::byte_at(l, 0)) * 256 + u16::from(fields::byte_at(l, 1));
+    let bytes = usize::from(fields::byte_at(l, 2));
+    Ok(Some(Header::Group { owner, bytes }))
 }
 
-// The header at a cursor.
-fn header_at(data: &[u8], own: u8, c: Cursor) -> Header
+// The header at a cursor: a function's in a loop, a group's at a loop's end, and none at the data's end.
+fn header_at(data: &[u8], own: u8, c: Cursor) -> Result<Option<Header>, Refusal>
     requires { (c.at ≤ c.end) × (c.end ≤ length «data».now) }
-    ensures { result ≡ header_at own «data».now c }
+    ensures { header_told result ≡ header_at own «data».now c }
 {
-    let at = c.at;
-    let end = c.end;
-    if at < end {
-        return function_header(&data[at..end], own);
+    if c.at < c.end {
+        return function_header(&data[c.at..c.end], own);
     }
-    if at < data.len() {
-        return group_header(&data[at..]);
+    if c.at < data.len() {
+        return group_header(&data[c.at..]);
     }
-    Header::Nothing
-}
-
-// A walk that is refused.
-fn refused_walk(refusal: u32) -> Walked
-    ensures { result ≡ refused refusal }
-{
-    Walked {
-        refusal,
-        next: 0,
-        step: Step::End,
-    }
-}
-
-// A walk that gives a function and goes on from its end.
-fn given_walk(tag: u8, start: usize, body: usize, next: usize) -> Walked
-    ensures { result ≡ record { refusal = 0; next = next; step = Step.Given tag start body } }
-{
-    let step = Step::Given { tag, start, body };
-    Walked {
-        refusal: 0,
-        next,
-        step,
-    }
+    Ok(None)
 }
 
 // Whether the transmitter hears a group: it is its own, or broadcast.
 fn hears(transmitter: u16, owner: u16) -> bool
     ensures { result ≡ heard_by transmitter owner }
 {
-    if owner == transmitter {
-        return true;
-    }
-    owner == 0
+    owner == transmitter || owner == 0
 }
 
-// What a walk has seen at the data's start.
-fn unseen(place: usize) -> Seen
-    ensures { result ≡ unseen_at place }
-{
-    Seen {
-        reached: place == 0,
-        found: false,
-        walked: refused_walk(0),
+impl Seen {
+    // What a walk has seen at the data's start.
+    fn new(place: usize) -> Seen
+        ensures { result ≡ unseen place }
+    {
+        Seen {
+            place,
+            reached: place == 0,
+            first: None,
+        }
     }
-}
 
-// Whether a walk reaches its place: it did before, or this other place is it.
-fn reaches(before: bool, place: usize, other: usize) -> bool
-    ensures { result ≡ (before || eqb place other) }
-{
-    if before {
-        return true;
+    // Whether the walk reaches its place: it did before, or this other place is it.
+    fn reaches(self, other: usize) -> bool
+        ensures { result ≡ (self.reached || eqb self.place other) }
+    {
+        self.reached || self.place == other
     }
-    place == other
-}
 
-// What a walk has seen after the function at place at, for which w is the answer. A function that is not heard changes nothing.
-fn see(s: Seen, heard: bool, place: usize, at: usize, w: Walked) -> Seen
-    ensures { result ≡ seen_after heard place at w s }
-{
-    if !heard {
-        return s;
+    // What it has seen after the function at place at, for which w is the answer. A function that is not heard changes nothing.
+    fn after(self, heard: bool, at: usize, w: Walked) -> Seen
+        ensures { result ≡ seen_after heard at w self }
+    {
+        if !heard {
+            return self;
+        }
+        Seen {
+            place: self.place,
+            reached: self.reaches(w.next),
+            first: self.first.or((self.place <= at).then_some(w)),
+        }
     }
-    let reached = reaches(s.reached, place, w.next);
-    if s.found {
-        let walked = s.walked;
-        return Seen {
-            reached,
-            found: true,
-            walked,
-        };
-    }
-    if place <= at {
-        return Seen {
-            reached,
-            found: true,
-            walked: w,
-        };
-    }
-    let walked = s.walked;
-    Seen {
-        reached,
-        found: false,
-        walked,
+
+    // The walk's answer where no function is left: the first that begins at the place or later, or the end, if the walk reaches the place.
+    fn finished(self, end: usize) -> Result<Walked, Refusal>
+        ensures { walked_told result ≡ answer_of end self }
+    {
+        if !self.reaches(end) {
+            return Err(Refusal::TooWideOrUnfitState);
+        }
+        Ok(
+            self.first.unwrap_or(Walked {
+                next: end,
+                step: None,
+            }),
+        )
     }
 }
 
-// The walk's answer where no function is left: the first that begins at the place or later, or the end, if the walk reaches the place.
-fn finished(s: Seen, place: usize, end: usize) -> Walked
-    ensures { result ≡ answer_of place end s }
+// Goes over all of the data once, from header to header: its first fault, or what a walk from the place has seen.
+fn pass(data: &[u8], own: u8, transmitter: u16, place: usize) -> Result<Seen, Fault>
+    ensures { passed_told (length «data».now) result ≡ pass_of own «data».now transmitter place }
 {
-    if !reaches(s.reached, place, end) {
-        return refused_walk(refusals::TOO_WIDE_OR_UNFIT_STATE);
-    }
-    if s.found {
-        return s.walked;
-    }
-    Walked {
-        refusal: 0,
-        next: end,
-        step: Step::End,
-    }
-}
-
-// What a pass gives that stops at a bad header.
-fn stopped(refusal: u32, place: usize) -> Passed
-    ensures { result ≡ record { fault = record { refusal = refusal; place = place }; walked = refused refusal } }
-{
-    Passed {
-        fault: Fault { refusal, place },
-        walked: refused_walk(refusal),
-    }
-}
-
-// What a pass over good data gives.
-fn good(walked: Walked) -> Passed
-    ensures { result ≡ record { fault = record { refusal = 0; place = 0 }; walked = walked } }
-{
-    Passed {
-        fault: Fault {
-            refusal: 0,
-            place: 0,
-        },
-        walked,
-    }
-}
-
-// Goes over all of the data once, from header to header: its first fault, and what a walk finds from the place on.
-fn pass(data: &[u8], own: u8, transmitter: u16, place: usize) -> Passed
-    ensures { result ≡ pass_of own «data».now transmitter place }
-{
-    let mut seen = unseen(place);
+    let mut seen = Seen::new(place);
     let mut c = Cursor {
         at: 0,
         end: 0,
@@ -311,7 +216,7 @@ fn pass(data: &[u8], own: u8, transmitter: u16, place: usize) -> Passed
     loop {
         let at = c.at;
         match header_at(data, own, c) {
-            Header::Group { owner, bytes } => {
+            Ok(Some(Header::Group { owner, bytes })) => {
                 let start = at + 3;
                 let end = start + bytes;
                 c = Cursor {
@@ -320,112 +225,98 @@ fn pass(data: &[u8], own: u8, transmitter: u16, place: usize) -> Passed
                     owner,
                 };
             }
-            Header::Function { tag, body } => {
+            Ok(Some(Header::Function { tag, body })) => {
                 let start = at + 2;
                 let next = start + body;
-                let w = given_walk(tag, start, body, next);
-                seen = see(seen, hears(transmitter, c.owner), place, at, w);
+                let step = Some(Given { tag, start, body });
+                seen = seen.after(hears(transmitter, c.owner), at, Walked { next, step });
                 c.at = next;
             }
-            Header::Bad(refusal) => return stopped(refusal, at),
-            Header::Nothing => return good(finished(seen, place, data.len())),
+            Ok(None) => return Ok(seen),
+            Err(refusal) => return Err(Fault { refusal, place: at }),
         }
     }
 }
 
 // The first fault of addressing data in byte order.
-pub fn check(data: &[u8]) -> Fault
-    ensures { result ≡ fault_of house «data».now }
+pub fn check(data: &[u8]) -> Result<(), Fault>
+    ensures { fault_told result ≡ fault_of house «data».now }
 {
-    let passed = pass(data, HOUSE, 0, 0);
-    passed.fault
+    pass(data, HOUSE, 0, 0)?;
+    Ok(())
 }
 
 // Whether a payload is not as long as its length byte says.
 fn size_wrong(payload: &[u8]) -> bool
     ensures { result ≡ size_wrong payload.now }
 {
-    if payload.len() < 2 {
-        return true;
-    }
-    payload.len() != 2 + fields::byte_at(payload, 1) as usize
+    payload.len() < 2 || payload.len() != 2 + usize::from(fields::byte_at(payload, 1))
 }
 
-// The number of the refusal of reading a payload, or 0.
-fn payload_refusal(payload: &[u8]) -> u32
-    ensures { result ≡ first (payload_checks house payload.now) }
+// Refuses what is no addressing payload.
+fn check_payload(payload: &[u8]) -> Result<(), Refusal>
+    ensures { code result ≡ first (payload_checks house payload.now) }
 {
     if size_wrong(payload) {
-        return refusals::PAYLOAD_SIZE_WRONG;
+        return Err(Refusal::PayloadSizeWrong);
     }
     if fields::byte_at(payload, 0) != 0 {
-        return refusals::RESERVED_BIT_SET;
+        return Err(Refusal::ReservedBitSet);
     }
-    check(&payload[2..]).refusal
+    check(&payload[2..])?;
+    Ok(())
 }
 
 // Reads an addressing payload: how many bytes of data it has.
-pub fn payload_read(payload: &[u8]) -> PayloadRead
-    ensures { result ≡ payload_of house payload.now }
+pub fn payload_read(payload: &[u8]) -> Result<usize, Refusal>
+    ensures { payload_told result ≡ payload_of house payload.now }
 {
-    let refusal = payload_refusal(payload);
-    if refusal != 0 {
-        return PayloadRead { refusal, bytes: 0 };
-    }
-    let bytes = payload.len() - 2;
-    PayloadRead { refusal: 0, bytes }
+    check_payload(payload)?;
+    Ok(payload.len() - 2)
 }
 
 // The data of an addressing payload as a part of it; an empty part where the payload is refused.
 pub fn payload_data(payload: &[u8]) -> &[u8]
     ensures { result.now ≡ data_read house payload.now }
 {
-    if payload_refusal(payload) != 0 {
-        return &payload[..0];
+    match check_payload(payload) {
+        Ok(()) => &payload[2..],
+        Err(_) => &payload[..0],
     }
-    &payload[2..]
 }
 
-// The number of the refusal of writing a payload, or 0.
-fn write_refusal(data: &[u8], room: usize) -> u32
-    ensures { result ≡ first (write_checks house «data».now room) }
+// Refuses data that no payload holds, and too little room.
+fn check_write(data: &[u8], room: usize) -> Result<(), Refusal>
+    ensures { code result ≡ first (write_checks house «data».now room) }
 {
     if 255 < data.len() {
-        return refusals::TOO_WIDE_OR_UNFIT_STATE;
+        return Err(Refusal::TooWideOrUnfitState);
     }
-    let fault = check(data);
-    if fault.refusal != 0 {
-        return fault.refusal;
+    check(data)?;
+    if room < 2 + data.len() {
+        return Err(Refusal::OutputShort);
     }
-    let size = 2 + data.len();
-    if room < size {
-        return refusals::OUTPUT_SHORT;
-    }
-    0
+    Ok(())
 }
 
-// Writes an addressing payload to the front of out: a reserved byte of zero, the length, and the data.
-pub fn payload_write(data: &[u8], out: &mut [u8]) -> Written
-    ensures { record { answer = result; out = out.new } ≡ write_of house «data».now out.old }
+// Writes an addressing payload to the front of out: a reserved byte of zero, the length, and the data; gives how many bytes it has.
+pub fn payload_write(data: &[u8], out: &mut [u8]) -> Result<u32, Refusal>
+    ensures { record { answer = bytes_of result; out = out.new } ≡ write_of house «data».now out.old }
 {
-    let refusal = write_refusal(data, out.len());
-    if refusal != 0 {
-        return Written { refusal, bytes: 0 };
-    }
+    check_write(data, out.len())?;
     let n = data.len();
     fields::store_at(out, 0, 2, n as u64);
     fields::copy(out, 2, n, data, 0);
-    let bytes = (2 + n) as u32;
-    Written { refusal: 0, bytes }
+    Ok((2 + n) as u32)
 }
 
 // The walk for one transmitter: what it finds from a place on, and where to go on from. Callers have it by `walk_from`.
-fn walk(data: &[u8], transmitter: u16, place: usize) -> Walked
-    ensures { result ≡ walk_of house «data».now transmitter place }
+fn walk(data: &[u8], transmitter: u16, place: usize) -> Result<Walked, Refusal>
+    ensures { walked_told result ≡ walk_of house «data».now transmitter place }
 {
     if 255 < data.len() {
-        return refused_walk(refusals::TOO_WIDE_OR_UNFIT_STATE);
+        return Err(Refusal::TooWideOrUnfitState);
     }
-    let passed = pass(data, HOUSE, transmitter, place);
-    passed.walked
+    let seen = pass(data, HOUSE, transmitter, place)?;
+    seen.finished(data.len())
 }

@@ -1,11 +1,12 @@
 // A walk for one transmitter that keeps the caller's addressing bytes and its place (01, "Code places and their forms"). `walk`
 // judges and finds, on slice and numbers; what stands here is thin.
-ghost use Rattle.std.specs.Prelude.{◌≡◌};
+ghost use Rattle.std.specs.Prelude.{◌≡◌, OnErr};
 ghost use Rattle.addressing.specs.Data.{house};
-ghost use Rattle.addressing.specs.Walk.{walk_of};
-ghost use Rattle.addressing.specs.Steps.{taken_of, fresh_walk, stepped_of};
+ghost use Rattle.addressing.specs.Walk.{walk_of, walked_told};
+ghost use Rattle.addressing.specs.Steps.{fresh_walk, stepped_of, step_told};
 
-use super::{Walked, walk};
+use super::{Given, Walked, walk};
+use refusals::Refusal;
 
 // A walk: the addressing data, whose walk it is, and the place that it has come to.
 #[derive(Clone, Copy)]
@@ -13,33 +14,6 @@ pub struct Walk<'a> {
     pub data: &'a [u8],
     pub transmitter: u16,
     pub at: usize,
-}
-
-// What a step gives: what the walk found, and the walk at the next place; with a refusal, the walk where it was (01, "hands back the
-// old state").
-#[derive(Clone, Copy)]
-pub struct Stepped<'a> {
-    pub answer: Walked,
-    pub walk: Walk<'a>,
-}
-
-// A step on slice and numbers: what was found, and the place that the walk is then at.
-#[derive(Clone, Copy)]
-struct Taken {
-    answer: Walked,
-    at: usize,
-}
-
-// All of a step that is not the struct: with a refusal the place stays.
-fn take_step(data: &[u8], transmitter: u16, at: usize) -> Taken
-    ensures { result ≡ taken_of «data».now transmitter at }
-{
-    let answer = walk(data, transmitter, at);
-    if answer.refusal != 0 {
-        return Taken { answer, at };
-    }
-    let next = answer.next;
-    Taken { answer, at: next }
 }
 
 impl<'a> Walk<'a> {
@@ -54,28 +28,28 @@ impl<'a> Walk<'a> {
         }
     }
 
-    // One step: what the walk finds at its place, and the walk at the next.
-    pub fn step(self) -> Stepped<'a>
-        ensures { result ≡ stepped_of self.entry }
+    // One step: the function that the walk finds at its place, or none at the data's end. The walk is then at the next place; with a
+    // refusal it stays where it was (01, "hands back the old state").
+    pub fn step(&mut self) -> Result<Option<Given>, Refusal>
+        ensures step { record { answer = step_told self.new.at result; walk = self.new } ≡ stepped_of self.old }
+        ensures refused { OnErr result (self.new ≡ self.old) }
     {
-        let taken = take_step(self.data, self.transmitter, self.at);
-        Stepped {
-            answer: taken.answer,
-            walk: Walk {
-                data: self.data,
-                transmitter: self.transmitter,
-                at: taken.at,
-            },
-        }
+        let walked = walk(self.data, self.transmitter, self.at)?;
+        self.at = walked.next;
+        Ok(walked.step)
     }
 }
 
 // A step from a place, for a caller that keeps slice and place itself: every caller of other crates. Its contract names no struct of a
 // walk.
-pub fn walk_from(data: &[u8], transmitter: u16, place: usize) -> Walked
-    ensures { result ≡ walk_of house «data».now transmitter place }
+pub fn walk_from(data: &[u8], transmitter: u16, place: usize) -> Result<Walked, Refusal>
+    ensures { walked_told result ≡ walk_of house «data».now transmitter place }
 {
     let mut walk = Walk::new(data, transmitter);
     walk.at = place;
-    walk.step().answer
+    let step = walk.step()?;
+    Ok(Walked {
+        next: walk.at,
+        step,
+    })
 }

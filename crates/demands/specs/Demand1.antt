@@ -11,16 +11,16 @@ use Rattle.refusals.specs.Answers.{Wrote}
 use Rattle.packet.specs.Read as packet
 use Rattle.packet.specs.Write as packet_writing
 use Rattle.packet.specs.declared.Header.{Header}
-use Rattle.packet.specs.declared.Packet.{Packet}
+use Rattle.packet.specs.Read.{Packet}
 use Rattle.stamp.specs.Read as stamp
 use Rattle.stamp.specs.Write as stamp_writing
 use Rattle.stamp.specs.declared.Stamp.{Stamp}
-use Rattle.stamp.specs.declared.StampRead.{StampRead}
+use Rattle.stamp.specs.Read.{StampRead}
 use Rattle.functions.specs.Read as function
 use Rattle.functions.specs.Write as function_writing
 use Rattle.functions.specs.declared.Function.{Function}
 use Rattle.functions.specs.declared.Function.TheVariants.{TimeOffset}
-use Rattle.functions.specs.declared.FunctionRead.{FunctionRead}
+use Rattle.functions.specs.Read.{FunctionRead}
 use Rattle.addressing.specs.Data.{house}
 use Rattle.addressing.specs.Payload as addressing
 use Rattle.addressing.specs.Walk.{walk_checks}

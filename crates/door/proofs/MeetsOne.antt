@@ -14,11 +14,11 @@ use Rattle.fields.proofs.Cases.{cases, true≢false}
 use Rattle.refusals.specs.Checks.{Check, ◌when◌, first}
 use Rattle.refusals.specs.Answers.{answer, written}
 use Rattle.refusals.proofs.AnswerLaws.{written-refused}
-use Rattle.packet.specs.declared.Packet.{Packet}
-use Rattle.stamp.specs.declared.StampRead.{StampRead}
+use Rattle.packet.specs.Read.{Packet}
+use Rattle.stamp.specs.Read.{StampRead}
 use Rattle.functions.specs.declared.Function.{Function}
 use Rattle.functions.specs.declared.Function.TheVariants.{TimeOffset, FrequencyOffset, Power, Private, Cell, Enable, Bandwidth, Passed}
-use Rattle.functions.specs.declared.FunctionRead.{FunctionRead}
+use Rattle.functions.specs.Read.{FunctionRead}
 use Rattle.addressing.specs.declared.PayloadRead.{PayloadRead}
 use Rattle.addressing.specs.declared.Step.{Step}
 use Rattle.addressing.specs.declared.Step.TheVariants.{Given, End}

@@ -6,12 +6,11 @@ use mathlib.Core.Bool.{true, false}
 use Prim.Native.Nat.{ℕ, zero, suc, ◌-◌, ◌^◌, ◌≤◌, ◌<◌}
 use native.Mathlib.Nat.{not-suc-le-zero, lt_of_lt_of_le}
 use native.Mathlib.Omega.{arith}
-use lib.Dec.{T}
-use lib.IntN.{ℤ, pos, negsuc, nat_abs, ◌+ℤ◌, ◌-ℤ◌}
+use lib.IntN.{ℤ, pos, negsuc, ◌+ℤ◌, ◌-ℤ◌}
 use lib.Pow.{pow_mono}
-use lib.Signed.{mag, non_neg, lt_z}
+use lib.Signed.{lt_z}
 use mir.Syntax.{Width}
-use mir.Val.{bits, hbits, Fits, SFits, to_z, of_z}
+use mir.Val.{hbits, SFits, to_z, of_z}
 use mir.ValLaws.{to_z_pos, to_z-of_z}
 use borrow.Author.Tests.{lt-ltb, le-ltb, ltb-true}
 use Rattle.fields.proofs.Cases.{true≢false}
@@ -62,10 +61,6 @@ unfolding unsigned
 not-below w (pos n) t = refl
 not-below w (negsuc k) t = absurd (true≢false t)
 
--- what a cast to an unsigned integer asks of a number that is not negative, and gives
-pub cast-asks : (W : Width) (z : ℤ) (n : ℕ) → z ≡ pos n → n < 2 ^ bits W → T (non_neg z) × Fits W (nat_abs z)
-cast-asks W z n e h = subst (λ (y : ℤ). T (non_neg y) × Fits W (nat_abs y)) (sym e) (tt, record { fits = h })
-
 module _ (W : Width) (w : ℕ) (z : ℤ) (v : 0 < w) (narrow : w ≤ hbits W) (i : InSigned w z) where
   pub below-fits : lt_z z (pos 0) ≡ true → SFits W (z +ℤ pos (2 ^ w))
   below-fits t =
@@ -75,16 +70,3 @@ module _ (W : Width) (w : ℕ) (z : ℤ) (v : 0 < w) (narrow : w ≤ hbits W) (i
   -- the sum, as a machine's integer keeps it
   pub below : lt_z z (pos 0) ≡ true → to_z W (of_z W (z +ℤ pos (2 ^ w))) ≡ pos (unsigned w z)
   below t = to_z-of_z W (z +ℤ pos (2 ^ w)) (below-fits t) ∙ more-whole w z v i t
-
--- ---- how far a number is from 0, and a negative one from -1
-
-pub mirrored : (z : ℤ) → lt_z z (pos 0) ≡ true → negsuc 0 -ℤ z ≡ pos (mag z)
-mirrored (pos n) t = absurd (not-suc-le-zero (ltb-true n 0 t))
-mirrored (negsuc k) t = rw (le-ltb (suc k) 1 (omega arith)) (ap pos (less_one k))
-  where
-    less_one : (k : ℕ) → suc k - 1 ≡ k
-    less_one k = omega arith
-
-pub not-mirrored : (z : ℤ) → lt_z z (pos 0) ≡ false → z ≡ pos (mag z)
-not-mirrored (pos n) t = refl
-not-mirrored (negsuc k) t = absurd (true≢false t)

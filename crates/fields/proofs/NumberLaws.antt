@@ -1,14 +1,17 @@
 -- Numbers and their bytes undo each other, over any count of bytes: the laws of a format at widths of 8.
 -- Assumes nothing.
 use mathlib.Core.Path.{◌≡◌, refl, sym, ap, ap₂, ◌∙◌}
-use mathlib.Core.List.{List, [], ◌∷◌, ◌++◌}
-use Prim.Native.Nat.{ℕ, zero, suc, ◌+◌, ◌-◌, ◌*◌, ◌/◌, ◌%◌, ◌^◌, ◌<◌}
-use native.Mathlib.Nat.{zero-add, add_assoc, mul_assoc, add-mul, zero-mul, mod-eq_of_lt, not-suc-le-zero}
+use mathlib.Core.List.{List, [], ◌∷◌, ◌++◌, append_assoc, append-nil}
+use Prim.Native.Nat.{ℕ, zero, suc, ◌+◌, ◌-◌, ◌*◌, ◌/◌, ◌%◌, ◌^◌, ◌≤◌, ◌<◌}
+use native.Mathlib.Nat.{zero-add, suc-add, add_assoc, mul_assoc, add-mul, zero-mul, mod-eq_of_lt, lt_of_lt_of_le, not-suc-le-zero, div-one}
 use native.Mathlib.Omega.{arith}
 use lib.Dec.{lit<}
 use lib.ListN.{length, get_or, take, drop, replicate, length-replicate, length-append}
-use lib.Pow.{pow-add}
-use lib.Seq.{get_or-drop}
+use lib.Bits.{bit_or, or_shifted}
+use lib.Pow.{pow-add, pow_mono}
+use lib.Seq.{get_or-drop, take_all}
+use Rattle.std.specs.Int.{w32, w64, to_be_bytes}
+use Rattle.std.specs.List.{fold}
 use Rattle.fields.proofs.FormatLaws.{pack-lt, pack-unpack-mod, unpack-pack, length-unpack, unpack-fit}
 use Rattle.fields.specs.Formats.{span, pack, unpack, Fit}
 use Rattle.fields.specs.Numbers.{Bytes, number, bytes}
@@ -130,6 +133,60 @@ get_or-bytes (suc k) n (suc i) h =
   where
     next : (j m : ℕ) → j - 1 - m ≡ suc j - 1 - suc m
     next j m = omega arith
+
+-- ---- as code reads and lays them
+
+-- a byte more, as an integer of eight bytes takes it in
+abbrev pub taken_in : ℕ → ℕ → ℕ
+taken_in v b = bit_or (v * 2 ^ 8 % 2 ^ 64) b
+
+taken-in : (l : List ℕ) (b : ℕ) → Bytes l → b < 256 → length l < 8 → taken_in (number l) b ≡ number (l ++ (b ∷ []))
+taken-in l b s h k =
+    let room : number l < 2 ^ 56 = lt_of_lt_of_le (number_lt l s) (pow_mono {i = 8 * length l} {j = 56} (omega arith)) in
+    ap (λ (v : ℕ). bit_or v b) (mod-eq_of_lt (omega arith)) ∙ or_shifted (number l) 8 b h ∙ sym (number-snoc l b)
+
+-- up to eight bytes, the first ones before the others
+fold_number : (l m : List ℕ) → Bytes l → Bytes m → length l + length m ≤ 8
+    → fold taken_in (number l) m ≡ number (l ++ m)
+fold_number l [] s t h = ap number (sym (append-nil l))
+fold_number l (b ∷ m) s t h =
+    let e : length (l ++ (b ∷ [])) ≡ length l + 1 = length-append l (b ∷ []) in
+    ap (λ (v : ℕ). fold taken_in v m) (taken-in l b s (t 0) (omega arith))
+    ∙ fold_number (l ++ (b ∷ [])) m (bytes-append l (b ∷ []) s (one b (t 0))) (bytes-tail b m t) (omega arith)
+    ∙ ap number (append_assoc l (b ∷ []) m)
+  where
+    one : (b : ℕ) → b < 256 → Bytes (b ∷ [])
+    one b h zero = h
+    one b h (suc i) = lit< tt
+
+pub number_of_fold : (l : List ℕ) → Bytes l → length l ≤ 8 → fold taken_in 0 l ≡ number l
+number_of_fold l s h =
+    ap (λ (v : ℕ). fold taken_in v l) (sym number-nil) ∙ fold_number [] l (λ i. lit< tt) s (omega arith)
+
+drop-bytes : (j k n : ℕ) → drop j (bytes (j + k) n) ≡ bytes k n
+drop-bytes zero k n = ap (λ (m : ℕ). bytes m n) (zero-add k)
+drop-bytes (suc j) k n =
+    ap (λ (m : ℕ). drop (suc j) (bytes m n)) (suc-add j k)
+    ∙ ap (drop (suc j)) (bytes-cons (j + k) n)
+    ∙ drop-bytes j k n
+
+-- all bytes of an integer of four, and of one of eight
+pub four_be_bytes : (n : ℕ) → to_be_bytes w32 n ≡ bytes 4 n
+unfolding bytes unpack
+four_be_bytes n = simp div-one
+
+eight_be_bytes : (n : ℕ) → to_be_bytes w64 n ≡ bytes 8 n
+unfolding bytes unpack
+eight_be_bytes n = simp div-one
+
+-- the last k of eight
+pub last_bytes : (k n : ℕ) (l : List ℕ) → l ≡ to_be_bytes w64 n → k ≤ 8 → take (8 - (8 - k)) (drop (8 - k) l) ≡ bytes k n
+last_bytes k n l i h =
+    let e : 8 ≡ 8 - k + k = omega arith in
+    let whole : l ≡ bytes (8 - k + k) n = i ∙ eight_be_bytes n ∙ ap (λ (m : ℕ). bytes m n) e in
+    ap (λ (m : List ℕ). take (8 - (8 - k)) (drop (8 - k) m)) whole
+    ∙ ap (take (8 - (8 - k))) (drop-bytes (8 - k) k n)
+    ∙ take_all (8 - (8 - k)) (bytes k n) (omega (arith, length-bytes k n))
 
 -- four bytes
 pub four_bytes : (a b c d : ℕ) → number (a ∷ b ∷ c ∷ d ∷ []) ≡ a * 16777216 + (b * 65536 + (c * 256 + d))

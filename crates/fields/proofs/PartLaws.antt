@@ -2,13 +2,15 @@
 -- Assumes nothing.
 use mathlib.Core.Path.{◌≡◌, refl, sym, ap, ◌∙◌}
 use mathlib.Core.List.{List, [], ◌∷◌, ◌++◌, append_assoc, append-nil}
-use Prim.Native.Nat.{ℕ, zero, suc, ◌+◌, ◌-◌, ◌*◌, ◌^◌, ◌≤◌, ◌<◌}
-use native.Mathlib.Nat.{add-zero, zero-add, suc-add, add_assoc}
+use Prim.Native.Nat.{ℕ, suc, ◌+◌, ◌-◌, ◌*◌, ◌^◌, ◌≤◌, ◌<◌}
+use native.Mathlib.Nat.{add-zero, zero-add, add_assoc}
 use native.Mathlib.Numerals.{add-one}
 use native.Mathlib.Omega.{arith}
 use lib.ListN.{length, get_or, set, replicate, take, drop, length-append, length-drop, take-append-drop, drop_of_length-le}
-use lib.Seq.{length-take-le, take_at, drop_at, take-take, take-add, drop-drop, drop-append-add, take-suc, drop-cons, get_or-take, get_or-drop, set_at, take-nil, take-length}
+use lib.Seq.{length-take-le, take_at, drop_at, take-take, take-add, drop-drop, drop-append-add, take-suc, drop-cons, get_or-take, get_or-drop, set_at, take-length}
 use borrow.Author.Tests.{le-leb}
+use borrow.Rule.Slice.PartMut.{put_mid}
+use Rattle.std.proofs.lemmas.List.{drop-take}
 use Rattle.fields.proofs.NumberLaws.{bytes_take, bytes_drop, number_append, number_lt}
 use Rattle.fields.proofs.FormatLaws.{unpack-halves}
 use Rattle.fields.specs.Formats.{span, unpack}
@@ -37,14 +39,6 @@ pub part-add : (from m n : ℕ) (l : List ℕ) → part from (m + n) l ≡ part 
 unfolding part
 part-add from m n l = take-add m n (drop from l) ∙ ap (λ (r : List ℕ). take m (drop from l) ++ take n r) (drop-drop m from l)
 
--- one element more
-pub part-more : (from n : ℕ) (l : List ℕ) → from + n < length l → part from (n + 1) l ≡ part from n l ++ (get_or l (from + n) 0 ∷ [])
-unfolding part
-part-more from n l h =
-    rw (add-one)
-    (take-suc (drop from l) n 0 (simp length-drop (omega arith))
-    ∙ ap (λ (x : ℕ). take n (drop from l) ++ (x ∷ [])) (get_or-drop from l n 0))
-
 pub part-cons : (from n : ℕ) (l : List ℕ) → from < length l → part from (suc n) l ≡ get_or l from 0 ∷ part (from + 1) n l
 unfolding part
 part-cons from n l h = rw (add-one from, drop-cons l from 0 h)
@@ -57,11 +51,6 @@ part-front p q n e = take_at p q n e
 pub part-behind : (p q : List ℕ) (from n : ℕ) → length p ≡ from → part from n (p ++ q) ≡ take n q
 unfolding part
 part-behind p q from n e = ap (take n) (drop_at p q from e)
-
-drop-take : (b k : ℕ) (l : List ℕ) → drop b (take (b + k) l) ≡ take k (drop b l)
-drop-take zero k l = rw (zero-add k)
-drop-take (suc b) k [] = rw (suc-add b k) (sym (take-nil k))
-drop-take (suc b) k (x ∷ l) = rw (suc-add b k) (drop-take b k l)
 
 pub take_part : (a n m : ℕ) (l : List ℕ) → m ≤ n → take m (part a n l) ≡ part a m l
 unfolding part
@@ -102,6 +91,13 @@ in_halves vs ws j k s b e w =
 pub overlay-is : (at : ℕ) (p l : List ℕ) → overlay at p l ≡ take at l ++ (p ++ drop (at + length p) l)
 unfolding overlay
 overlay-is at p l = refl
+
+-- what a write to the n elements of a slice from `at` on leaves
+pub written-part : (at n : ℕ) (p l : List ℕ) → length p ≡ n → put_mid at (at + n - at) l p ≡ overlay at p l
+unfolding overlay
+written-part at n p l e =
+    let k : at + n - at ≡ length p = omega arith in
+    ap (λ (r : List ℕ). take at l ++ (p ++ r)) (ap (λ (i : ℕ). drop i (drop at l)) k ∙ drop-drop (length p) at l)
 
 -- what stands before the end of p
 length-head : (at : ℕ) (p l : List ℕ) → at ≤ length l → length (take at l ++ p) ≡ at + length p

@@ -9,97 +9,63 @@ ghost use Rattle.fields.specs.Parts.{number_at, stored_at, copied_to, filled_at}
 pub fn within(at: usize, n: usize, len: usize) -> bool
     ensures { result ≡ leb (at + n) len }
 {
-    if len < at {
-        return false;
-    }
-    n <= len - at
+    at <= len && n <= len - at
 }
 
 // Whether z is less than -half, or not less than half.
 pub fn outside(half: u32, z: i32) -> bool
     ensures { result ≡ outside half z }
 {
-    if z < 0 {
-        let mirrored = -1 - z;
-        return half <= mirrored as u32;
-    }
-    half <= z as u32
+    let half = i64::from(half);
+    !(-half..half).contains(&i64::from(z))
 }
 
 // The byte of s at at; 0 past its end.
 pub fn byte_at(s: &[u8], at: usize) -> u8
     ensures { result ≡ get_or s.now at 0 }
 {
-    if at < s.len() {
-        return s[at];
-    }
-    0
+    s.get(at).copied().unwrap_or(0)
 }
 
 // The number in the n bytes of s at at, most significant first; 0 where they are not there, or more than eight.
+#[tactic(auto, unfolding(crate::specs::Parts::number_at))]
 pub fn number_at(s: &[u8], at: usize, n: usize) -> u64
     ensures { result ≡ number_at at n s.now }
 {
-    if !within(at, n, s.len()) {
+    if !within(at, n, s.len()) || 8 < n {
         return 0;
     }
-    if 8 < n {
-        return 0;
-    }
-    let mut v: u64 = 0;
-    let mut i = 0;
-    while i < n {
-        v = v * 256 + s[at + i] as u64;
-        i += 1;
-    }
-    v
+    s[at..at + n].iter().fold(0, |v, b| v << 8 | u64::from(*b))
 }
 
 // Lays the n lowest bytes of v over dst at at, most significant first; nothing where there is no room, or n is over eight.
+#[tactic(auto, unfolding(crate::specs::Parts::stored_at))]
 pub fn store_at(dst: &mut [u8], at: usize, n: usize, v: u64)
     ensures { dst.new ≡ stored_at at n v dst.old }
 {
-    if !within(at, n, dst.len()) {
+    if !within(at, n, dst.len()) || 8 < n {
         return;
     }
-    if 8 < n {
-        return;
-    }
-    let mut i = 0;
-    while i < n {
-        dst[at + i] = ((v >> (8 * (n - 1 - i))) % 256) as u8;
-        i += 1;
-    }
+    dst[at..at + n].copy_from_slice(&v.to_be_bytes()[8 - n..]);
 }
 
 // Lays the n bytes of src at from over dst at at; nothing where they are not there, or there is no room.
+#[tactic(auto, unfolding(crate::specs::Parts::copied_to, crate::specs::Parts::overlay, crate::specs::Parts::part))]
 pub fn copy(dst: &mut [u8], at: usize, n: usize, src: &[u8], from: usize)
     ensures { dst.new ≡ copied_to at n src.now from dst.old }
 {
-    if !within(from, n, src.len()) {
+    if !within(from, n, src.len()) || !within(at, n, dst.len()) {
         return;
     }
-    if !within(at, n, dst.len()) {
-        return;
-    }
-    let mut i = 0;
-    while i < n {
-        dst[at + i] = src[from + i];
-        i += 1;
-    }
+    dst[at..at + n].copy_from_slice(&src[from..from + n]);
 }
 
 // Lays n times byte over dst at at; nothing where there is no room.
+#[tactic(auto, unfolding(crate::specs::Parts::filled_at, crate::specs::Parts::overlay))]
 pub fn fill(dst: &mut [u8], at: usize, n: usize, byte: u8)
     ensures { dst.new ≡ filled_at at n byte dst.old }
 {
-    if !within(at, n, dst.len()) {
-        return;
-    }
-    let end = at + n;
-    let mut i = at;
-    while i < end {
-        dst[i] = byte;
-        i += 1;
+    if within(at, n, dst.len()) {
+        dst[at..at + n].fill(byte);
     }
 }

@@ -16,7 +16,7 @@ use Rattle.functions.specs.Function.{function_of, body_of}
 use Rattle.functions.specs.Read.{read_checks, no_function, function_read}
 use Rattle.functions.specs.Write.{write_checks, Writable, write_of}
 use Rattle.functions.specs.declared.Function.{Function}
-use Rattle.functions.specs.declared.FunctionRead.{FunctionRead}
+use Rattle.functions.specs.Read.{FunctionRead}
 
 pub record Readable (tag : ℕ) (body : List ℕ) : Type 0 where
   pub short : body_long (length body) ≡ false

@@ -13,7 +13,7 @@ use Rattle.fields.specs.Numbers.{Bytes, number, bytes}
 use Rattle.fields.specs.Parts.{number_at}
 use Rattle.fields.specs.Signed.{signed, unsigned, InSigned, beyond_signed}
 use Rattle.fields.proofs.FormatLaws.{pack-lt, pack-unpack, unpack-pack}
-use Rattle.fields.proofs.NumberLaws.{number-bytes, number_lt, bytes-number, number-cons, number-nil}
+use Rattle.fields.proofs.NumberLaws.{length-bytes, number-bytes, number_lt, bytes-number, number-cons, number-nil}
 use Rattle.fields.proofs.PartLaws.{number-at, part-whole}
 use Rattle.fields.proofs.SignedLaws.{unsigned_signed, signed-in, in-signed, not_beyond, unsigned-lt, signed-unsigned}
 
@@ -58,3 +58,6 @@ pub one_byte : (body : List ℕ) → length body ≡ 1 → number body ≡ get_o
 one_byte [] h = omega arith
 one_byte (x ∷ []) h = number-cons x [] ∙ ap (λ (n : ℕ). x * 1 + n) number-nil ∙ omega arith
 one_byte (x ∷ y ∷ l) h = omega arith
+
+-- how long a body is, for the check
+pub ruleset sizes = (length-bytes)

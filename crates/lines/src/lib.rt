@@ -2,15 +2,25 @@
 // the lines of the T2-MI packets that it finishes. Where a line has no room nothing of it is laid.
 #![tactic(auto)]
 
-ghost use Rattle.std.specs.Prelude.{◌≡◌, ◌+◌, ◌*◌, ◌≤◌, length};
+ghost use Rattle.std.specs.Prelude.{◌≡◌, nat_eq, ◌+◌, ◌*◌, ◌<◌, ◌≤◌, ◌++◌, length};
+ghost use Rattle.arrayvec.specs.ArrayString.{array_string_len};
 ghost use Rattle.packet.specs.Cut.{cut};
-ghost use Rattle.text.specs.Laid.{word, laid, appended};
+ghost use Rattle.packet.specs.Read.{packet_told};
+ghost use Rattle.refusals.specs.Refusals.{number_of};
+ghost use Rattle.text.specs.Laid.{word, Appends, Lays};
 ghost use Rattle.lines.specs.Lines.{head_line, fields_line, refused_line, line_by, lines_of, last_line};
 ghost use Rattle.lines.specs.Pieces.{pieces, kept_of};
 ghost use Rattle.lines.specs.Listing.{start_listing, capped, bit, after_of, roomy, step_of, fed_of};
 
+use arrayvec::ArrayString;
 use gather::{Gathered, Reader};
-use packet::{Header, Packet};
+use itoa::Buffer;
+use packet::Header;
+use refusals::Refusal;
+use text::Text;
+
+// A line under way: at most five numbers, and what stands behind each.
+type Line = ArrayString<105>;
 
 // A listing under way: the reader, the packets that it handed out so far, and its loss marks.
 #[derive(Clone, Copy)]
@@ -39,86 +49,105 @@ pub struct Fed {
     pub filled: usize,
 }
 
-// Lays a number, which has at most 20 digits, and the byte behind it.
-fn lay_word(lines: &mut [u8], at: usize, n: u64, end: u8) -> usize
-    requires { at + 21 ≤ length lines.old }
-    ensures { (record { at = result; lines = lines.new } ≡ laid (word n end) at lines.old) × (result ≤ at + 21) }
+// Appends a number, which has at most 20 digits, and what stands behind it.
+fn lay_word(line: &mut Line, n: u64, end: char)
+    requires { (array_string_len line.old + 21 ≤ 105) × (end < 128) }
+    ensures bytes { line.new.bytes ≡ line.old.bytes ++ word n end }
+    ensures few { array_string_len line.new ≤ array_string_len line.old + 21 }
 {
-    text::word(lines, at, n, end)
+    line.push_str(Buffer::new().format(n));
+    line.push(end);
 }
 
-// Lays the line of a header's fields at the front.
-fn lay_fields(line: &mut [u8], h: Header) -> usize
-    requires { 105 ≤ length line.old }
-    ensures { record { at = result; lines = line.new } ≡ laid (fields_line h) 0 line.old }
+// The line of a header's fields.
+#[tactic(auto, unfolding(crate::specs::Lines::fields_line))]
+fn fields_line(h: Header) -> Line
+    ensures { result.bytes ≡ fields_line h }
 {
-    let a = lay_word(line, 0, h.kind as u64, b' ');
-    let b = lay_word(line, a, h.count as u64, b' ');
-    let c = lay_word(line, b, h.frame as u64, b' ');
-    let d = lay_word(line, c, h.stream as u64, b' ');
-    lay_word(line, d, h.bits as u64, b'\n')
+    let mut line = Line::new();
+    lay_word(&mut line, h.kind as u64, ' ');
+    lay_word(&mut line, h.count as u64, ' ');
+    lay_word(&mut line, h.frame as u64, ' ');
+    lay_word(&mut line, h.stream as u64, ' ');
+    lay_word(&mut line, h.bits as u64, '\n');
+    line
 }
 
-// Lays the line of a refusal at the front.
-fn lay_refused(line: &mut [u8], refusal: u32) -> usize
-    requires { 105 ≤ length line.old }
-    ensures { record { at = result; lines = line.new } ≡ laid (refused_line refusal) 0 line.old }
+// The line of a refusal.
+#[tactic(auto, unfolding(crate::specs::Lines::refused_line))]
+fn refused_line(refusal: Refusal) -> Line
+    ensures { result.bytes ≡ refused_line (number_of refusal) }
 {
-    let a = text::append(line, 0, b"refused ");
-    lay_word(line, a, refusal as u64, b'\n')
+    let mut line = Line::new();
+    line.push_str("refused ");
+    lay_word(&mut line, refusal.number() as u64, '\n');
+    line
+}
+
+// The line of the totals.
+#[tactic(auto, unfolding(crate::specs::Lines::last_line))]
+fn totals_line(packets: u64, gaps: u64) -> Line
+    ensures { result.bytes ≡ last_line packets gaps }
+{
+    let mut line = Line::new();
+    line.push_str("packets ");
+    lay_word(&mut line, packets, ' ');
+    line.push_str("gaps ");
+    lay_word(&mut line, gaps, '\n');
+    line
+}
+
+// The line of what reading a packet gave.
+#[tactic(auto, using(crate::proofs::LineLaws::told_refused, crate::proofs::LineLaws::told_fields))]
+fn read_line(p: Result<Header, Refusal>) -> Line
+    ensures { result.bytes ≡ line_by (packet_told p) }
+{
+    match p {
+        Ok(h) => fields_line(h),
+        Err(refusal) => refused_line(refusal),
+    }
 }
 
 // Appends the line of what reading a packet gave. The line is made aside, so that all of it is laid or nothing.
-pub fn line(lines: &mut [u8], at: usize, p: Packet) -> usize
-    ensures { record { at = result; lines = lines.new } ≡ appended (line_by p) at lines.old }
+pub fn line(text: &mut Text, p: Result<Header, Refusal>)
+    ensures { Appends (line_by (packet_told p)) text.old text.new }
 {
-    let mut aside = [0u8; 105];
-    if p.refusal != 0 {
-        let n = lay_refused(&mut aside, p.refusal);
-        return text::append(lines, at, &aside[..n]);
-    }
-    let h = p.header;
-    let n = lay_fields(&mut aside, h);
-    text::append(lines, at, &aside[..n])
+    text.append(read_line(p).as_bytes());
 }
 
 // Appends the header.
-pub fn head_line(lines: &mut [u8], at: usize) -> usize
-    ensures { record { at = result; lines = lines.new } ≡ appended head_line at lines.old }
+#[tactic(auto, unfolding(crate::specs::Lines::head_line))]
+pub fn head_line(text: &mut Text)
+    ensures { Appends head_line text.old text.new }
 {
-    text::append(lines, at, b"type count frame stream bits\n")
+    text.append(b"type count frame stream bits\n");
 }
 
-// Lays the line of the totals at the front.
-fn lay_last(line: &mut [u8], packets: u64, gaps: u64) -> usize
-    requires { 55 ≤ length line.old }
-    ensures { record { at = result; lines = line.new } ≡ laid (last_line packets gaps) 0 line.old }
+// Whether reading a packet found its CRC wrong.
+fn crc_failed(p: Result<Header, Refusal>) -> bool
+    ensures { result ≡ nat_eq (packet_told p).refusal 14 }
 {
-    let a = text::append(line, 0, b"packets ");
-    let b = lay_word(line, a, packets, b' ');
-    let c = text::append(line, b, b"gaps ");
-    lay_word(line, c, gaps, b'\n')
+    p == Err(Refusal::CrcWrong)
 }
 
 // Lays the lines of the packets of s, which stand back to back, up to the first that is not whole. Their CRC is judged by
 // reading them: 14 is no line, as packets with a wrong CRC are none of the cut.
-fn lay_lines(lines: &mut [u8], at: usize, s: &[u8]) -> usize
-    requires { at + 2 * length s.now ≤ length lines.old }
-    ensures { record { at = result; lines = lines.new } ≡ laid (lines_of (cut s.now).packets) at lines.old }
+fn lay_lines(text: &mut Text, s: &[u8])
+    requires { text.old.at + 2 * length s.now ≤ length text.old.lines.now }
+    ensures { Lays (lines_of (cut s.now).packets) text.old text.new }
 {
-    let mut w = at;
     let mut i = 0;
     loop {
         let size = packet::own_length(s, i);
         if !fields::within(i, size, s.len()) {
-            return w;
+            return;
         }
         let end = i + size;
         let p = packet::read(&s[i..end]);
-        if p.refusal == refusals::CRC_WRONG {
-            return w;
+        if crc_failed(p) {
+            return;
         }
-        w = line(lines, w, p);
+        line(text, p);
         i = end;
     }
 }
@@ -221,12 +250,13 @@ impl Listing {
         let reader = self.reader;
         let call = reader.gather(transport, gathering, output);
         let bytes = call.bytes;
-        let filled = lay_lines(lines, filled, &output[..bytes]);
+        let mut text = Text { lines, at: filled };
+        lay_lines(&mut text, &output[..bytes]);
         let listing = self.after(call);
         Step {
             full: false,
             listing,
-            filled,
+            filled: text.at,
         }
     }
 
@@ -267,11 +297,9 @@ impl Listing {
     }
 
     // Appends the line of the totals.
-    pub fn last_line(self, lines: &mut [u8], at: usize) -> usize
-        ensures { record { at = result; lines = lines.new } ≡ appended (last_line self.packets self.gaps) at lines.old }
+    pub fn last_line(self, text: &mut Text)
+        ensures { Appends (last_line self.packets self.gaps) text.old text.new }
     {
-        let mut aside = [0u8; 64];
-        let n = lay_last(&mut aside, self.packets, self.gaps);
-        text::append(lines, at, &aside[..n])
+        text.append(totals_line(self.packets, self.gaps).as_bytes());
     }
 }

@@ -10,6 +10,7 @@ use lines::Listing;
 use std::io;
 use std::io::{ErrorKind, Read};
 use std::process::ExitCode;
+use text::Text;
 
 // Where a listing stands, and whether it is whole: the input came to its end, and all lines are written out.
 #[derive(Clone, Copy)]
@@ -131,7 +132,12 @@ fn main(rt: HostRuntime) -> ExitCode {
     let mut gathering = [0u8; 8202];
     let mut output = [0u8; 8385];
     let mut lines = [0u8; 65536];
-    let head = lines::head_line(&mut lines, 0);
+    let mut text = Text {
+        lines: &mut lines,
+        at: 0,
+    };
+    lines::head_line(&mut text);
+    let head = text.at;
     if !flush(&rt, &lines, head) {
         return ExitCode::FAILURE;
     }
@@ -147,7 +153,12 @@ fn main(rt: HostRuntime) -> ExitCode {
         return ExitCode::FAILURE;
     }
     let listing = end.listing;
-    let last = listing.last_line(&mut lines, 0);
+    let mut text = Text {
+        lines: &mut lines,
+        at: 0,
+    };
+    listing.last_line(&mut text);
+    let last = text.at;
     if !flush(&rt, &lines, last) {
         return ExitCode::FAILURE;
     }

@@ -1,15 +1,17 @@
 -- An answer of a crate below, laid out flat, and arguments that stand apart, put together.
-use Rattle.std.specs.Prelude.{ℕ, Bool, true, false, cond, List, eqb, ltb, length, ℤ, pos}
+use Rattle.std.specs.Prelude.{◌≡◌, Result, ℕ, Bool, true, false, cond, List, eqb, ltb, length, ℤ, pos}
+use Rattle.refusals.specs.declared.Refusal.{Refusal}
 use Rattle.functions.specs.declared.Function.{Function}
 use Rattle.functions.specs.declared.Function.TheVariants.{TimeOffset, FrequencyOffset, Power, Private, Cell, Enable, Bandwidth, Passed}
+use Rattle.functions.specs.Read.{function_told}
 use Rattle.sfn.specs.declared.SfnFunction.{SfnFunction}
-use Rattle.packet.specs.declared.Packet.{Packet}
+use Rattle.packet.specs.Read.{Packet}
 use Rattle.packet.specs.Layout.{size_of}
 use Rattle.stamp.specs.Layout.{kind_of}
 use Rattle.stamp.specs.declared.Stamp.{Stamp}
 use Rattle.stamp.specs.declared.Kind.{Kind}
 use Rattle.stamp.specs.declared.Kind.TheVariants.{Null, Relative, Absolute}
-use Rattle.stamp.specs.declared.StampRead.{StampRead}
+use Rattle.stamp.specs.Read.{StampRead, stamp_told}
 use Rattle.sfn.specs.declared.SfnStamp.{SfnStamp}
 use Rattle.sfn.specs.declared.SfnPacket.{SfnPacket}
 
@@ -49,6 +51,10 @@ stamp_of p =
       kind = kind_read p.refusal p.stamp;
     }
 
+-- what a result of `read` is laid out as
+abbrev pub ShowsStamp : Result Stamp Refusal → SfnStamp → Type 0
+ShowsStamp r s = s ≡ stamp_of (stamp_told r)
+
 abbrev pub stamp_from : ℕ → ℕ → ℕ → ℕ → Stamp
 stamp_from bw seconds subseconds utco = record { bw = bw; seconds = seconds; subseconds = record { 0 = subseconds }; utco = utco }
 
@@ -72,3 +78,7 @@ function_of n (Cell id wait rest) = of_kind n 4 (pos id) (bit_of wait) rest
 function_of n Enable = of_kind n 5 (pos 0) 0 0
 function_of n (Bandwidth v wait) = of_kind n 6 (pos v) (bit_of wait) 0
 function_of n (Passed tag) = record { refusal = n; value = pos 0; kind = 7; tag = tag; wait = 0; reserved = 0 }
+
+-- what a result of `function_read` is laid out as
+abbrev pub ShowsFunction : Result Function Refusal → SfnFunction → Type 0
+ShowsFunction r s = s ≡ function_of (function_told r).refusal (function_told r).function

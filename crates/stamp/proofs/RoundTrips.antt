@@ -21,7 +21,7 @@ use Rattle.stamp.specs.Layout.{format, bandwidth_over, second_reached}
 use Rattle.stamp.specs.Read.{field, stamp_of, read_checks, no_stamp, read_of}
 use Rattle.stamp.specs.Write.{fields_of, stamp_bytes, write_checks, write_of}
 use Rattle.stamp.specs.declared.Stamp.{Stamp}
-use Rattle.stamp.specs.declared.StampRead.{StampRead}
+use Rattle.stamp.specs.Read.{StampRead}
 
 -- ---- what the two operations show
 

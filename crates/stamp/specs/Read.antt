@@ -1,12 +1,12 @@
 -- Reading a timestamp payload (01: 23, 20, 24, 25 in this order).
-use Rattle.std.specs.Prelude.{ℕ, Bool, not, List, [], ◌∷◌, eqb, length, get_or}
+use Rattle.std.specs.Prelude.{ℕ, Bool, not, List, [], ◌∷◌, eqb, length, get_or, Result}
 use Rattle.fields.specs.Formats.{unpack}
 use Rattle.fields.specs.Numbers.{number}
 use Rattle.refusals.specs.Checks.{Check, ◌when◌}
-use Rattle.refusals.specs.Answers.{answer}
+use Rattle.refusals.specs.Answers.{answer, told}
+use Rattle.refusals.specs.declared.Refusal.{Refusal}
 use Rattle.stamp.specs.Layout.{format, bandwidth_over, second_reached}
 use Rattle.stamp.specs.declared.Stamp.{Stamp}
-use Rattle.stamp.specs.declared.StampRead.{StampRead}
 
 -- field i of a payload, whose bytes are one number
 abbrev pub field : ℕ → List ℕ → ℕ
@@ -34,8 +34,17 @@ read_checks payload =
 
 -- ---- the answer
 
+-- a stamp; with a refusal its number, and a stamp of zeros
+pub record StampRead : Type 0 where
+  pub refusal : ℕ
+  pub stamp : Stamp
+
 abbrev pub no_stamp : Stamp
 no_stamp = record { bw = 0; seconds = 0; subseconds = record { 0 = 0 }; utco = 0 }
+
+-- the answer that a result of `read` stands for
+abbrev pub stamp_told : Result Stamp Refusal → StampRead
+stamp_told r = told (λ n. record { refusal = n; stamp = no_stamp }) (λ s. record { refusal = 0; stamp = s }) r
 
 unfoldable pub read_of : List ℕ → StampRead
 read_of payload =

@@ -4,18 +4,19 @@
 ghost use Rattle.std.specs.Prelude.{◌≡◌, ◌≤◌, length};
 ghost use Rattle.fields.specs.Formats.{too_wide};
 ghost use Rattle.refusals.specs.Checks.{first};
+ghost use Rattle.refusals.specs.Answers.{code, bytes_of};
 ghost use Rattle.stamp.specs.Layout.{format, units_of, is_null, kind_of, second_reached};
-ghost use Rattle.stamp.specs.Read.{stamp_of, reserved_set, read_checks, read_of};
+ghost use Rattle.stamp.specs.Read.{stamp_of, reserved_set, read_checks, read_of, stamp_told};
 ghost use Rattle.stamp.specs.Write.{fields_of, write_checks, write_of};
 
-use refusals::Written;
+use refusals::Refusal;
 
 // Subsecond units, whose length goes by the bandwidth code. A type of its own: no function adds it to another clock's time.
-#[derive(Clone, Copy)]
+#[derive(Clone, Copy, Debug, PartialEq, Eq)]
 pub struct Subseconds(pub u32);
 
 // The fields of a stamp, in their order: bw, seconds_since_2000, subseconds, utco.
-#[derive(Clone, Copy)]
+#[derive(Clone, Copy, Debug, PartialEq, Eq)]
 pub struct Stamp {
     pub bw: u8,
     pub seconds: u64,
@@ -23,19 +24,12 @@ pub struct Stamp {
     pub utco: u16,
 }
 
-// What reading a payload gives: with a refusal, a stamp of zeros.
-#[derive(Clone, Copy)]
-pub struct StampRead {
-    pub refusal: u32,
-    pub stamp: Stamp,
-}
-
-// What a stamp says of the time of emission: nothing, the place within any second, or the second too.
-#[derive(Clone, Copy)]
+// What a stamp says of the time of emission: the second too, the place within any second, or nothing. C sees the numbers.
+#[derive(Clone, Copy, Debug, PartialEq, Eq)]
 pub enum Kind {
-    Null,
-    Relative,
-    Absolute,
+    Absolute = 0,
+    Relative = 1,
+    Null = 2,
 }
 
 // Subsecond units in a microsecond, by bandwidth code.
@@ -45,27 +39,19 @@ const UNITS: [u32; 6] = [131, 40, 48, 56, 64, 80];
 pub fn units(bw: u8) -> u32
     ensures { result ≡ units_of bw }
 {
-    let i = bw as usize;
-    if 5 < i {
-        return 0;
-    }
-    UNITS[i]
+    UNITS.get(bw as usize).copied().unwrap_or(0)
 }
 
 // Whether seconds, subseconds and utco are all ones.
+#[tactic(auto, unfolding(crate::specs::Layout::is_null))]
 fn is_null(stamp: Stamp) -> bool
     ensures { result ≡ is_null stamp }
 {
-    if stamp.seconds != 0xff_ffff_ffff {
-        return false;
-    }
-    if stamp.subseconds.0 != 0x7ff_ffff {
-        return false;
-    }
-    stamp.utco == 0x1fff
+    stamp.seconds == 0xff_ffff_ffff && stamp.subseconds.0 == 0x7ff_ffff && stamp.utco == 0x1fff
 }
 
 // Which of the three kinds a stamp is.
+#[tactic(auto, unfolding(crate::specs::Layout::kind_of))]
 pub fn kind_of(stamp: Stamp) -> Kind
     ensures { result ≡ kind_of stamp }
 {
@@ -79,14 +65,11 @@ pub fn kind_of(stamp: Stamp) -> Kind
 }
 
 // Whether the subseconds reach a whole second, as only a null stamp's may.
+#[tactic(auto, unfolding(crate::specs::Layout::second_reached))]
 fn second_reached(stamp: Stamp) -> bool
     ensures { result ≡ second_reached stamp }
 {
-    let second = units(stamp.bw) * 1_000_000;
-    if stamp.subseconds.0 < second {
-        return false;
-    }
-    !is_null(stamp)
+    units(stamp.bw) * 1_000_000 <= stamp.subseconds.0 && !is_null(stamp)
 }
 
 // The fields of a payload. Its 88 bits are two numbers: the last 40 hold subseconds and utco.
@@ -117,93 +100,72 @@ fn reserved_set(payload: &[u8]) -> bool
     front / 0x1000_0000_0000 % 16 != 0
 }
 
-// The number of the refusal of reading, or 0.
-fn read_refusal(payload: &[u8]) -> u32
-    ensures { result ≡ first (read_checks payload.now) }
+// Refuses what is no timestamp payload.
+#[tactic(auto, unfolding(crate::specs::Read::read_checks))]
+fn check_read(payload: &[u8]) -> Result<(), Refusal>
+    ensures { code result ≡ first (read_checks payload.now) }
 {
     if payload.len() != 11 {
-        return refusals::PAYLOAD_SIZE_WRONG;
+        return Err(Refusal::PayloadSizeWrong);
     }
     if reserved_set(payload) {
-        return refusals::RESERVED_BIT_SET;
+        return Err(Refusal::ReservedBitSet);
     }
     let stamp = stamp_of(payload);
     if 5 < stamp.bw {
-        return refusals::BANDWIDTH_CODE_OVER_5;
+        return Err(Refusal::BandwidthCodeOver5);
     }
     if second_reached(stamp) {
-        return refusals::SUBSECONDS_OVER_A_SECOND;
+        return Err(Refusal::SubsecondsOverASecond);
     }
-    0
+    Ok(())
 }
 
 // Reads a timestamp payload.
-pub fn read(payload: &[u8]) -> StampRead
-    ensures { result ≡ read_of payload.now }
+pub fn read(payload: &[u8]) -> Result<Stamp, Refusal>
+    ensures { stamp_told result ≡ read_of payload.now }
 {
-    let refusal = read_refusal(payload);
-    if refusal != 0 {
-        return StampRead {
-            refusal,
-            stamp: Stamp {
-                bw: 0,
-                seconds: 0,
-                subseconds: Subseconds(0),
-                utco: 0,
-            },
-        };
-    }
-    let stamp = stamp_of(payload);
-    StampRead { refusal: 0, stamp }
+    check_read(payload)?;
+    Ok(stamp_of(payload))
 }
 
 // Whether seconds, subseconds or utco is too wide for its bits. A bandwidth code up to 5 is not.
+#[tactic(auto, unfolding(fields::specs::Formats::too_wide))]
 fn field_too_wide(stamp: Stamp) -> bool
     requires { stamp.bw ≤ 5 }
     ensures { result ≡ too_wide format (fields_of stamp) }
 {
-    if 0xff_ffff_ffff < stamp.seconds {
-        return true;
-    }
-    if 0x7ff_ffff < stamp.subseconds.0 {
-        return true;
-    }
-    0x1fff < stamp.utco
+    0xff_ffff_ffff < stamp.seconds || 0x7ff_ffff < stamp.subseconds.0 || 0x1fff < stamp.utco
 }
 
-// The number of the refusal of writing, or 0.
-fn write_refusal(stamp: Stamp, room: usize) -> u32
-    ensures { result ≡ first (write_checks stamp room) }
+// Refuses a stamp that no payload holds, and too little room.
+#[tactic(auto, unfolding(crate::specs::Write::write_checks))]
+fn check_write(stamp: Stamp, room: usize) -> Result<(), Refusal>
+    ensures { code result ≡ first (write_checks stamp room) }
 {
     if 5 < stamp.bw {
-        return refusals::BANDWIDTH_CODE_OVER_5;
+        return Err(Refusal::BandwidthCodeOver5);
     }
     if field_too_wide(stamp) {
-        return refusals::TOO_WIDE_OR_UNFIT_STATE;
+        return Err(Refusal::TooWideOrUnfitState);
     }
     if second_reached(stamp) {
-        return refusals::SUBSECONDS_OVER_A_SECOND;
+        return Err(Refusal::SubsecondsOverASecond);
     }
     if room < 11 {
-        return refusals::OUTPUT_SHORT;
+        return Err(Refusal::OutputShort);
     }
-    0
+    Ok(())
 }
 
-// Writes a timestamp payload to the front of out, the reserved bits zero.
-pub fn write(stamp: Stamp, out: &mut [u8]) -> Written
-    ensures { record { answer = result; out = out.new } ≡ write_of stamp out.old }
+// Writes a timestamp payload to the front of out, the reserved bits zero; gives how many bytes it has.
+pub fn write(stamp: Stamp, out: &mut [u8]) -> Result<u32, Refusal>
+    ensures { record { answer = bytes_of result; out = out.new } ≡ write_of stamp out.old }
 {
-    let refusal = write_refusal(stamp, out.len());
-    if refusal != 0 {
-        return Written { refusal, bytes: 0 };
-    }
+    check_write(stamp, out.len())?;
     let front = stamp.bw as u64 * 0x100_0000_0000 + stamp.seconds;
     let back = stamp.subseconds.0 as u64 * 0x2000 + stamp.utco as u64;
     fields::store_at(out, 0, 6, front);
     fields::store_at(out, 6, 5, back);
-    Written {
-        refusal: 0,
-        bytes: 11,
-    }
+    Ok(11)
 }

@@ -10,7 +10,11 @@ use lib.ListN.{length, get_or, take, length-append, get_or-append}
 use lib.Seq.{length-take-le, take_all, take-suc, get_or-take}
 use borrow.Author.Tests.{ne_eqb, eqb-true, eqb-false}
 use Rattle.fields.proofs.Cases.{cases}
-use Rattle.text.specs.Digits.{digit, spell_by, spell, digits, value_from, value, AllDigits, Decimal}
+use lib.IntN.{ℤ, pos, negsuc}
+use lib.Signed.{mag}
+use Rattle.std.specs.Fmt.{decimal, signed_decimal}
+use Rattle.std.proofs.lemmas.Fmt.{decimal_by_steps}
+use Rattle.text.specs.Digits.{digit, spell_by, spell, digits, minus, signed, value_from, value, AllDigits, Decimal}
 
 -- ---- how the digits of a number over 0 go on
 
@@ -79,14 +83,6 @@ value-digits (suc n) = rw (digits_more (suc n) (omega arith)) (value-spell (suc 
 
 length_more : (n : ℕ) → 0 < n → length (spell n) ≡ length (spell (n / 10)) + 1
 length_more n h = ap length (spell-more n h) ∙ length-append (spell (n / 10)) (digit (n % 10) ∷ [])
-
--- the number over 0 that a loop still has in hand, and one digit more
-pub spell-counts : (n : ℕ) → 0 < n → length (spell n) ≡ suc (length (spell (n / 10)))
-spell-counts n h = length_more n h ∙ omega arith
-
-pub digits-count : (n : ℕ) → length (digits n) ≡ 1 + length (spell (n / 10))
-digits-count zero = unfold digits in unfold spell in unfold spell_by in refl
-digits-count (suc n) = ap length (digits_more (suc n) (omega arith)) ∙ length_more (suc n) (omega arith) ∙ omega arith
 
 spell-few : (k n : ℕ) → n < 10 ^ k → length (spell n) ≤ k
 spell-few zero zero h = rw spell-zero (omega arith)
@@ -178,22 +174,24 @@ digits-only (d ∷ e ∷ l) c =
     let r = spelt-by (length (d ∷ e ∷ l)) (d ∷ e ∷ l) refl c.each (λ p. c.lead (omega arith)) in
     rw (digits_more (value (d ∷ e ∷ l)) (r.1 (omega arith))) r.0
 
--- ---- digit by digit from the end, as a loop lays them
+-- ---- std's text of a number is the same
 
--- the last k digits of a number
-abbrev pub ending : ℕ → ℕ → List ℕ
-ending zero n = []
-ending (suc k) n = ending k (n / 10) ++ (digit (n % 10) ∷ [])
+digits_one : (n : ℕ) → n < 10 → digit n ∷ [] ≡ digits n
+digits_one zero h = sym digits-zero
+digits_one (suc n) h =
+    let d : suc n / 10 ≡ 0 = omega arith in
+    let r : suc n % 10 ≡ suc n = omega arith in
+    rw (digits_more (suc n) (omega arith), spell-more (suc n) (omega arith), d, r, spell-zero) refl
 
-pub length-ending : (k n : ℕ) → length (ending k n) ≡ k
-length-ending zero n = refl
-length-ending (suc k) n = length-append (ending k (n / 10)) (digit (n % 10) ∷ []) ∙ omega (arith, length-ending k (n / 10))
+digits_step : (n : ℕ) (ds : List ℕ) → 10 ≤ n → ds ≡ digits (n / 10) → ds ++ (digit (n % 10) ∷ []) ≡ digits n
+digits_step n ds h e = rw (e, digits_more (n / 10) (omega arith), digits_more n (omega arith), spell-more n (omega arith)) refl
 
-spell-ending : (n : ℕ) → spell n ≡ ending (length (spell n)) n
-spell-ending =
-    tenths (λ n. spell n ≡ ending (length (spell n)) n) (rw spell-zero)
-    (λ n h r. rw (spell-counts n h) (spell-more n h ∙ ap (λ (l : List ℕ). l ++ (digit (n % 10) ∷ [])) r))
+-- A theorem: what `{}` prints of a number of 64 bits are its digits
+pub decimal-digits : (n : ℕ) → n < 2 ^ 64 → decimal n ≡ digits n
+decimal-digits = decimal_by_steps (λ n ds. ds ≡ digits n) digits_one digits_step
 
-pub digits-ending : (n : ℕ) → digits n ≡ ending (length (digits n)) n
-digits-ending zero = rw digits-zero
-digits-ending (suc n) = rw (digits_more (suc n) (omega arith)) (spell-ending (suc n))
+-- and of a signed one of 64 bits
+pub decimal-signed : (z : ℤ) → mag z < 2 ^ 63 → signed_decimal z ≡ signed z
+unfolding signed
+decimal-signed (pos n) h = decimal-digits n (omega arith)
+decimal-signed (negsuc k) h = ap (λ (l : List ℕ). minus ∷ l) (decimal-digits (suc k) (omega arith))

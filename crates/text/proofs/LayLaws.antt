@@ -1,21 +1,19 @@
--- The laws of text in a lent buffer: with and without room, one text behind another, and digits from the last to the first.
+-- The laws of text in a lent buffer: with and without room, and one text behind another.
 -- Assumes nothing.
 use mathlib.Core.Path.{◌≡◌, sym, ap, ◌∙◌}
 use mathlib.Core.Bool.{false}
-use mathlib.Core.List.{List, [], ◌∷◌, ◌++◌, append_assoc, append-nil}
-use Prim.Native.Nat.{ℕ, suc, ◌+◌, ◌/◌, ◌%◌, ◌^◌, ◌≤◌, ◌<◌}
+use mathlib.Core.List.{List, [], ◌∷◌, ◌++◌}
+use Prim.Native.Nat.{ℕ, ◌+◌, ◌^◌, ◌≤◌, ◌<◌}
 use native.Mathlib.Nat.{add-zero}
-use native.Mathlib.Numerals.{add-one}
 use native.Mathlib.Omega.{arith}
-use lib.Dec.{leb}
-use lib.ListN.{length, get_or, take, drop, set, length-append}
-use lib.Seq.{length-take-le, take-suc, drop_at, drop-length, set_at}
+use lib.ListN.{length, length-append}
 use borrow.Author.Tests.{le-leb}
 use Rattle.fields.specs.Parts.{overlay, inside}
-use Rattle.fields.proofs.PartLaws.{overlay-is, overlay-none, overlay-next, set-overlay, take-front}
-use Rattle.text.specs.Digits.{digit, digits}
-use Rattle.text.specs.Laid.{word, Filled, laid, appended}
-use Rattle.text.proofs.DigitLaws.{digits-few, ending, length-ending, digits-ending}
+use Rattle.fields.proofs.PartLaws.{length-overlay, overlay-none, overlay-next}
+use Rattle.text.specs.Digits.{digits}
+use Rattle.text.specs.Laid.{word, Filled, laid, appended, filled, Appends}
+use Rattle.text.specs.declared.Text.{Text}
+use Rattle.text.proofs.DigitLaws.{digits-few}
 
 -- ---- with and without room
 
@@ -26,10 +24,6 @@ appended-fits p at l h = rw (le-leb (at + length p) (length l) h)
 pub appended-not : (p : List ℕ) (at : ℕ) (l : List ℕ) → inside at (length p) l ≡ false → appended p at l ≡ record { at = at; lines = l }
 unfolding appended
 appended-not p at l h = rw h
-
--- one byte more than k
-pub appended-without : (p : List ℕ) (k at : ℕ) (l : List ℕ) → length p ≡ k + 1 → leb (at + (k + 1)) (length l) ≡ false → appended p at l ≡ record { at = at; lines = l }
-appended-without p k at l e h = appended-not p at l (ap (λ (n : ℕ). leb (at + n) (length l)) e ∙ h)
 
 -- ---- one text behind another
 
@@ -55,24 +49,16 @@ laid-at p at l r m e = ap (λ (x : Filled). x.at) e
 pub laid-lines : (p : List ℕ) (at : ℕ) (l : List ℕ) (r : ℕ) (m : List ℕ) → record { at = r; lines = m } ≡ laid p at l → m ≡ overlay at p l
 laid-lines p at l r m e = ap (λ (x : Filled). x.lines) e
 
--- a text laid at the front is read there
-module _ (p l : List ℕ) (r : ℕ) (m : List ℕ) (e : record { at = r; lines = m } ≡ laid p 0 l) where
-  pub front_read : take r m ≡ p
-  front_read =
-      let z : r ≡ length p = omega (arith, laid-at p 0 l r m e) in
-      rw (z, laid-lines p 0 l r m e) (take-front p l)
+-- ---- a text appended to what a buffer is filled with
 
-  pub front-within : r ≤ length m
-  front-within =
-      rw (laid-lines p 0 l r m e, overlay-is 0 p l, length-append p (drop (0 + length p) l)) (omega (arith, laid-at p 0 l r m e))
-
--- a store before p
-pub set_before : (at : ℕ) (p l : List ℕ) (x : ℕ) → at < length l → set (overlay (at + 1) p l) at x ≡ overlay at (x ∷ p) l
-set_before at p l x h =
-    let e : at + 1 + length p ≡ at + suc (length p) = omega arith in
-    rw (overlay-is (at + 1) p l, add-one at, take-suc l at 0 h, append_assoc (take at l) (get_or l at 0 ∷ []) (p ++ drop (suc at + length p) l))
-    (set_at (take at l) (get_or l at 0) (p ++ drop (suc at + length p) l) x at (length-take-le at l (omega arith))
-    ∙ rw (← add-one at, e) (sym (overlay-is at (x ∷ p) l)))
+-- two of them that have room are one
+pub appends_next : (p q : List ℕ) (t u v : Text) → t.at + (length p + length q) ≤ length t.lines.now → Appends p t u → Appends q u v → Appends (p ++ q) t v
+appends_next p q t u v h a b =
+    let l : List ℕ = t.lines.now in
+    let e : filled u ≡ laid p t.at l = a.1 ∙ appended-fits p t.at l (omega arith) in
+    let n : length u.lines.now ≡ length l = ap (λ (f : Filled). length f.lines) e ∙ length-overlay t.at p l (omega arith) in
+    let f : filled v ≡ laid q u.at u.lines.now = b.1 ∙ appended-fits q u.at u.lines.now (omega (arith, ap (λ (f : Filled). f.at) e)) in
+    (b.0 ∙ a.0, laid_next p q t.at l u.at v.at u.lines.now v.lines.now (omega arith) e f ∙ sym (appended-fits (p ++ q) t.at l (omega (arith, length-append p q))))
 
 -- ---- words
 
@@ -83,36 +69,3 @@ word-length n end = length-append (digits n) (end ∷ [])
 -- a number below ten to the k, and what stands behind it
 pub word-few : (k n end : ℕ) → n < 10 ^ k → 0 < k → length (word n end) ≤ k + 1
 word-few k n end h p = omega (arith, word-length n end, digits-few k n h p)
-
--- the byte stored behind the digits
-pub word-stored : (n end at : ℕ) (l m : List ℕ) → at + (length (digits n) + 1) ≤ length l → m ≡ overlay at (digits n) l
-    → set m (at + length (digits n)) end ≡ overlay at (word n end) l
-unfolding word
-word-stored n end at l m h e = rw e (set-overlay at (digits n) l end (omega arith))
-
--- ---- digits, the last one first
-
-module _ (d : List ℕ) (i j rest : ℕ) (e : i ≡ j + 1) (f : d ≡ ending i rest ++ drop i d) where
-  split : d ≡ ending j (rest / 10) ++ (digit (rest % 10) ∷ drop i d)
-  split =
-      f ∙ ap (λ (k : ℕ). ending k rest ++ drop i d) (e ∙ add-one j)
-      ∙ append_assoc (ending j (rest / 10)) (digit (rest % 10) ∷ []) (drop i d)
-
-  -- the digit before those that are laid
-  pub digit-before : drop j d ≡ digit (rest % 10) ∷ drop i d
-  digit-before =
-      ap (drop j) split ∙ drop_at (ending j (rest / 10)) (digit (rest % 10) ∷ drop i d) j (length-ending j (rest / 10))
-
-  pub digits-left : d ≡ ending j (rest / 10) ++ drop j d
-  digits-left = split ∙ ap (λ (l : List ℕ). ending j (rest / 10) ++ l) (sym digit-before)
-
-  pub digit-laid : (at : ℕ) (l m : List ℕ) → at + j < length l → m ≡ overlay (at + i) (drop i d) l → set m (at + j) (digit (rest % 10)) ≡ overlay (at + j) (drop j d) l
-  digit-laid at l m h k =
-      let q : at + i ≡ at + j + 1 = omega arith in
-      rw (k, q, digit-before) (set_before (at + j) (drop i d) l (digit (rest % 10)) h)
-
-pub digits-first : (k n : ℕ) → k ≡ length (digits n) → digits n ≡ ending k n ++ drop k (digits n)
-digits-first k n e = rw (e, drop-length (digits n), append-nil (ending (length (digits n)) n)) (digits-ending n)
-
-pub digits-none : (at k n : ℕ) (l : List ℕ) → k ≡ length (digits n) → l ≡ overlay (at + k) (drop k (digits n)) l
-digits-none at k n l e = rw (e, drop-length (digits n)) (sym (overlay-none (at + length (digits n)) l))

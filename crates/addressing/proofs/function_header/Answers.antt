@@ -1,20 +1,17 @@
 -- `addressing::function_header` meets its contract: the number of a fault, or the tag and how long the body is.
 use mathlib.Core.Path.{sym, ap₂, ◌∙◌}
-use Rattle.refusals.proofs.AnswerLaws.{answer-number, answer-accepted}
-use Rattle.addressing.specs.Cursor.{function_header}
+use Rattle.refusals.proofs.AnswerLaws.{answer-exit, answer-accepted}
+use Rattle.addressing.specs.Cursor.{Function, function_header}
 use Rattle.addressing.specs.Data.{function_checks}
-use Rattle.addressing.specs.declared.Header.TheVariants.{Function}
 use Rattle.addressing.proofs.function_header.Goals as goal
 
-pub returns-then-refusal-ne0 : goal.returns-then-refusal-ne0
+pub returns-in_err-check_function : goal.returns-in_err-check_function
 unfolding function_header
-returns-then-refusal-ne0 c =
-    let a = c.args in
-    answer-number (function_checks a.own a.l.now) _ _ _ c.function_fault-refusal.ensures c.if-refusal-ne0.true
+returns-in_err-check_function c =
+    answer-exit (function_checks c.args.own c.args.l.now) _ _ _ _ _ c.from_residual.ensures.1 c.in_err-check_function.ensures
 
 pub returns : goal.returns
 unfolding function_header
 returns c =
-    let a = c.args in
     ap₂ Function c.byte_at-tag.ensures c.body_length-body.ensures
-    ∙ sym (answer-accepted (function_checks a.own a.l.now) _ _ (sym c.function_fault-refusal.ensures ∙ c.if-refusal-ne0.false))
+    ∙ sym (answer-accepted (function_checks c.args.own c.args.l.now) _ _ (sym c.in_ok-check_function.ensures))

@@ -2,9 +2,8 @@
 use mathlib.Core.Path.{sym, ap₂, ◌∙◌}
 use Prim.Native.Nat.{ℕ, ◌+◌, ◌*◌}
 use Rattle.refusals.specs.Answers.{answer}
-use Rattle.addressing.specs.Cursor.{group_header}
+use Rattle.addressing.specs.Cursor.{group_header, Group}
 use Rattle.addressing.specs.Data.{group_checks}
-use Rattle.addressing.specs.declared.Header.TheVariants.{Group}
 use Rattle.addressing.proofs.group_header.Goals as goal
 
 pub returns-then-group_cut : goal.returns-then-group_cut
@@ -14,5 +13,5 @@ returns-then-group_cut c = sym (rw (sym c.group_cut.ensures ∙ c.if-group_cut.t
 pub returns : goal.returns
 unfolding group_header group_checks answer
 returns c =
-    ap₂ Group (ap₂ (λ (x y : ℕ). x * 256 + y) c.byte_at.ensures c.byte_at-2.ensures) c.byte_at-bytes.ensures
+    ap₂ Group (ap₂ (λ (x y : ℕ). x * 256 + y) (c.from.ensures ∙ c.byte_at.ensures) (c.from-2.ensures ∙ c.byte_at-2.ensures)) (c.from-bytes.ensures ∙ c.byte_at-3.ensures)
     ∙ sym (rw (sym c.group_cut.ensures ∙ c.if-group_cut.false))

@@ -6,18 +6,18 @@ use Rattle.addressing.proofs.DataLaws.{from_on}
 use Rattle.addressing.specs.Cursor.{group_header, header_at}
 use Rattle.addressing.proofs.header_at.Goals as goal
 
-pub returns-then-at-end : goal.returns-then-at-end
+pub returns-then-c : goal.returns-then-c
 unfolding header_at part
-returns-then-at-end c = c.function_header.ensures ∙ sym (rw (lt-ltb _ _ c.if-at-end.true))
+returns-then-c c = c.function_header.ensures ∙ sym (rw (lt-ltb _ _ c.if-c.true))
 
-pub returns-then-at-data : goal.returns-then-at-data
+pub returns-then-c-data : goal.returns-then-c-data
 unfolding header_at
-returns-then-at-data c =
+returns-then-c-data c =
     let a = c.args in
     c.group_header.ensures
     ∙ ap group_header (from_on a.c.at a.«data».now)
-    ∙ sym (rw (le-ltb _ _ c.if-at-end.false, lt-ltb _ _ c.if-at-data.true))
+    ∙ sym (rw (le-ltb _ _ c.if-c.false, lt-ltb _ _ c.if-c-data.true))
 
 pub returns : goal.returns
 unfolding header_at
-returns c = sym (rw (le-ltb _ _ c.if-at-end.false, le-ltb _ _ c.if-at-data.false))
+returns c = sym (rw (le-ltb _ _ c.if-c.false, le-ltb _ _ c.if-c-data.false))

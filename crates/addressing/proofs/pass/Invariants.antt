@@ -8,7 +8,7 @@ use Rattle.addressing.proofs.pass.Given as goal
 
 abbrev pub invariant-loop-owner : goal.invariant-loop-owner
 invariant-loop-owner l =
-    (l.c.at ≤ l.c.end) × (l.c.end ≤ length l.«data») × (told l.place (length l.«data») l.seen (left_of l.own l.transmitter l.«data» l.c) ≡ pass_of l.own l.«data» l.transmitter l.place)
+    (l.c.at ≤ l.c.end) × (l.c.end ≤ length l.«data») × (told (length l.«data») l.seen (left_of l.own l.transmitter l.«data» l.c) ≡ pass_of l.own l.«data» l.transmitter l.place)
 
 abbrev pub decreases-loop-owner : goal.decreases-loop-owner
 decreases-loop-owner l = length l.«data» - l.c.at

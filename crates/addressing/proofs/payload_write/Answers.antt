@@ -8,16 +8,20 @@ use Rattle.fields.specs.Formats.{unpack}
 use Rattle.fields.specs.Numbers.{bytes}
 use Rattle.fields.specs.Parts.{overlay, stored_at, copied_to}
 use Rattle.fields.proofs.PartLaws.{part-whole, length-overlay, overlay-next, stored-at, copied-to}
-use Rattle.refusals.proofs.AnswerLaws.{written-number}
+use Rattle.refusals.specs.Checks.{first}
+use Rattle.refusals.proofs.AnswerLaws.{written-exit}
 use Rattle.addressing.specs.Data.{house}
 use Rattle.addressing.proofs.PayloadLaws.{Writable, writable, write-accepted}
-use Rattle.addressing.specs.Payload.{payload_bytes, write_of}
+use Rattle.addressing.specs.Payload.{write_checks, payload_bytes, write_of}
 use Rattle.addressing.proofs.payload_write.Goals as goal
-use Rattle.addressing.proofs.payload_write.Goals.{Else-refusal-ne0}
+use Rattle.addressing.proofs.payload_write.Goals.{In_ok-check_write}
 
 -- past the test the data is written
-well : (c : Else-refusal-ne0) → Writable house c.args.«data».now c.args.out.now
-well c = writable house _ _ (sym c.write_refusal-refusal.ensures ∙ c.if-refusal-ne0.false)
+passed : (c : In_ok-check_write) → first (write_checks house c.args.«data».now (length c.args.out.now)) ≡ 0
+passed c = sym c.in_ok-check_write.ensures
+
+well : (c : In_ok-check_write) → Writable house c.args.«data».now c.args.out.now
+well c = writable house _ _ (passed c)
 
 -- the length under a byte of zero
 head : (n : ℕ) → n ≤ 255 → bytes 2 n ≡ 0 ∷ n ∷ []
@@ -44,18 +48,18 @@ laid d out h room o1 o2 e1 e2 =
     ∙ ap (λ (l : List ℕ). overlay 2 l (overlay 0 front out)) (part-whole d)
     ∙ overlay-next 0 front d out 2 (omega arith) (omega arith)
 
-pub returns-then-refusal-ne0 : goal.returns-then-refusal-ne0
+pub returns-in_err-check_write : goal.returns-in_err-check_write
 unfolding write_of
-returns-then-refusal-ne0 c = written-number _ _ _ _ c.write_refusal-refusal.ensures c.if-refusal-ne0.true
+returns-in_err-check_write c = written-exit _ _ _ _ _ c.from_residual.ensures.1 c.in_err-check_write.ensures
 
-pub overflow_cast-bytes : goal.overflow_cast-bytes
-overflow_cast-bytes c =
-    let w = well (goal.at.overflow_cast-bytes c).Else-refusal-ne0 in omega (arith, w.short)
+pub overflow_cast-result : goal.overflow_cast-result
+overflow_cast-result c = omega (arith, (well (goal.at.overflow_cast-result c).In_ok-check_write).short)
 
 pub returns : goal.returns
 returns c =
     let a = c.args in
-    let w = well (goal.at.returns c).Else-refusal-ne0 in
-    sym (write-accepted house a.«data».now a.out.now (sym c.write_refusal-refusal.ensures ∙ c.if-refusal-ne0.false)
+    let at = (goal.at.returns c).In_ok-check_write in
+    let w = well at in
+    sym (write-accepted house a.«data».now a.out.now (passed at)
     ∙ ap (λ (l : List ℕ). record { answer = record { refusal = 0; bytes = 2 + length a.«data».now }; out = l })
     (sym (laid a.«data».now a.out.now w.short w.room _ _ c.store_at.ensures c.copy.ensures)))

@@ -12,7 +12,7 @@ use Rattle.fields.specs.Numbers.{number, bytes}
 use Rattle.fields.specs.Parts.{part, overlay, number_at}
 use Rattle.refusals.specs.Answers.{answer, Wrote, written}
 use Rattle.packet.specs.Read as packet
-use Rattle.packet.specs.declared.Packet.{Packet}
+use Rattle.packet.specs.Read.{Packet}
 use Rattle.functions.specs.Tags.{body_long, body_wrong, value_reserved, bandwidth_reserved}
 use Rattle.functions.specs.Function.{body_of}
 use Rattle.functions.specs.Write as function_writing

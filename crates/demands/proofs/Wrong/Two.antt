@@ -21,17 +21,17 @@ use Rattle.packet.specs.Cut.{cut, cut_by, batch_fault, joined}
 use Rattle.packet.specs.Read as packet
 use Rattle.packet.specs.Write as packet_writing
 use Rattle.packet.specs.declared.Header.{Header}
-use Rattle.packet.specs.declared.Packet.{Packet}
+use Rattle.packet.specs.Read.{Packet}
 use Rattle.stamp.specs.Layout as stamp
 use Rattle.stamp.specs.Read as stamp_reading
-use Rattle.stamp.specs.declared.StampRead.{StampRead}
+use Rattle.stamp.specs.Read.{StampRead}
 use Rattle.functions.specs.Tags.{body_long, body_wrong, bandwidth_reserved}
 use Rattle.functions.specs.Function.{function_of}
 use Rattle.functions.specs.Read as function
 use Rattle.functions.specs.Write as function_writing
 use Rattle.functions.specs.declared.Function.{Function}
 use Rattle.functions.specs.declared.Function.TheVariants.{TimeOffset, FrequencyOffset}
-use Rattle.functions.specs.declared.FunctionRead.{FunctionRead}
+use Rattle.functions.specs.Read.{FunctionRead}
 use Rattle.addressing.specs.Data.{entries_by, entries_in, functions_of, fault_in, fault_of}
 use Rattle.addressing.specs.Payload as addressing
 use Rattle.addressing.specs.Walk as walking

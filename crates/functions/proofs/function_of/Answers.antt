@@ -1,13 +1,14 @@
 -- `functions::function_of` meets its contract: in each arm the tag says how long the body is, so that its number fits; the
 -- code divides by the weights that the formats give their fields.
 use borrow.Author.Rules.{rules}
-use lib.ListN.{length, get_or-eq_default}
-use mathlib.Core.Path.{◌≡◌, sym, ap, ◌∙◌}
+use lib.ListN.{length}
+use mathlib.Core.Path.{◌≡◌, refl, sym, ap, ◌∙◌}
 use mathlib.Core.List.{List}
 use Prim.Native.Nat.{ℕ, ◌*◌, ◌/◌, ◌%◌, ◌^◌, ◌≤◌, ◌<◌}
 use native.Mathlib.Nat.{div-one}
 use native.Mathlib.Omega.{arith}
 use mir.Syntax.{w16, w32}
+use mir.Val.{to_z}
 use mir.ValLaws.{to_z-of_z}
 use Rattle.fields.specs.Formats.{unpack}
 use Rattle.fields.specs.Numbers.{number}
@@ -15,8 +16,8 @@ use Rattle.fields.specs.Signed.{signed}
 use Rattle.functions.proofs.BodyLaws.{number_small, number-whole}
 use Rattle.functions.proofs.KindLaws.{sized}
 use Rattle.functions.specs.Tags.{exactly, size_of, cell, bandwidth}
-use Rattle.functions.specs.Function.{field, is_set, known, function_of}
-use Rattle.functions.specs.declared.Function.TheVariants.{TimeOffset, FrequencyOffset, Power, Cell, Bandwidth, Passed}
+use Rattle.functions.specs.Function.{field, is_set, function_of}
+use Rattle.functions.specs.declared.Function.TheVariants.{TimeOffset, FrequencyOffset, Power, Cell, Bandwidth}
 use Rattle.functions.proofs.function_of.Goals as goal
 use Rattle.functions.proofs.function_of.Goals.{After-number_at-v}
 
@@ -52,12 +53,18 @@ signed_24-requires c = below (goal.at.signed_24-requires c).After-number_at-v 3 
 pub overflow_cast-result : goal.overflow_cast-result
 overflow_cast-result c = record { fits = below (goal.at.overflow_cast-result c).After-number_at-v 2 (ap size_of c.in-2.is) (omega arith) }
 
+-- what the library makes of 16 bits
+as_signed : (n : ℕ) → to_z w16 n ≡ signed 16 n
+unfolding signed
+as_signed n = refl
+
 pub returns-in-0 : goal.returns-in-0
 unfolding function_of
 returns-in-0 c =
     ap TimeOffset
-    (to_z-of_z w16 c.signed_16.result (record { sfits = c.signed_16.type_inv })
-    ∙ c.signed_16.ensures
+    (to_z-of_z w16 c.cast_signed.result (record { sfits = c.cast_signed.type_inv })
+    ∙ c.cast_signed.ensures
+    ∙ as_signed c.number_at-v.result
     ∙ ap (signed 16) (value (goal.at.returns-in-0 c).After-number_at-v 2 (ap size_of c.in-0.is) (omega arith)))
     ∙ sym (ap (λ (t : ℕ). function_of t c.args.body.now) c.in-0.is)
 
@@ -76,30 +83,14 @@ returns-in-2 c =
     ap Power (value (goal.at.returns-in-2 c).After-number_at-v 2 (ap size_of c.in-2.is) (omega arith))
     ∙ sym (ap (λ (t : ℕ). function_of t c.args.body.now) c.in-2.is)
 
-pub returns-in-3 : goal.returns-in-3
-unfolding function_of
-returns-in-3 c =
-    sym (ap (λ (t : ℕ). function_of t c.args.body.now) c.in-3.is)
-
 pub returns-in-4 : goal.returns-in-4
 unfolding function_of
 returns-in-4 c =
     rw (value (goal.at.returns-in-4 c).After-number_at-v 3 (ap size_of c.in-4.is) (omega arith))
     (cell-read c.args.body.now ∙ sym (ap (λ (t : ℕ). function_of t c.args.body.now) c.in-4.is))
 
-pub returns-in-5 : goal.returns-in-5
-unfolding function_of
-returns-in-5 c =
-    sym (ap (λ (t : ℕ). function_of t c.args.body.now) c.in-5.is)
-
 pub returns-in-6 : goal.returns-in-6
 unfolding function_of
 returns-in-6 c =
     rw (value (goal.at.returns-in-6 c).After-number_at-v 1 (ap size_of c.in-6.is) (omega arith))
     (bandwidth-read c.args.body.now ∙ sym (ap (λ (t : ℕ). function_of t c.args.body.now) c.in-6.is))
-
-pub returns-in_default : goal.returns-in_default
-unfolding function_of
-returns-in_default c =
-    let h : 7 ≤ c.args.tag = omega arith in
-    sym (get_or-eq_default (known c.args.body.now) (Passed c.args.tag) h)

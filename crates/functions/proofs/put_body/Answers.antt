@@ -1,13 +1,14 @@
 -- `functions::put_body` meets its contract, kind by kind: what is stored or copied is the body, and there is room for it.
 use borrow.Author.Rules.{rules}
 use lib.ListN.{length}
-use mathlib.Core.Path.{◌≡◌, sym, ap, ◌∙◌, subst}
+use lib.IntN.{ℤ, pos, negsuc}
+use mathlib.Core.Path.{◌≡◌, refl, sym, ap, ◌∙◌, subst}
 use mathlib.Core.Bool.{true}
 use mathlib.Core.List.{List}
 use Prim.Native.Nat.{ℕ, ◌≤◌}
 use native.Mathlib.Omega.{arith}
 use mir.Syntax.{w16, w32}
-use mir.Val.{SFits}
+use mir.Val.{SFits, of_z}
 use mir.ValLaws.{to_z-of_z}
 use Rattle.fields.specs.Numbers.{bytes}
 use Rattle.fields.specs.Parts.{overlay, stored_at, copied_to}
@@ -40,12 +41,19 @@ unsigned_24-requires c =
     let h : SFits w32 c.in-FrequencyOffset.z = search rules in
     subst (InSigned 24) (sym (to_z-of_z w32 _ h)) (in-signed 24 c.in-FrequencyOffset.z (sym (ap unfit c.in-FrequencyOffset.is) ∙ c.requires.fit))
 
+-- the 16 bits that the library makes of a number
+as_unsigned : (z : ℤ) → of_z w16 z ≡ unsigned 16 z
+unfolding unsigned
+as_unsigned (pos n) = refl
+as_unsigned (negsuc k) = refl
+
 pub returns-in-TimeOffset : goal.returns-in-TimeOffset
 unfolding body_of
 returns-in-TimeOffset c =
     let a = c.args in
     let h : SFits w16 c.in-TimeOffset.z = search rules in
-    c.store_at.ensures ∙ laid a.f a.bytes.now a.out.now c.requires 2 _ (ap (bytes 2) (c.unsigned_16.ensures ∙ ap (unsigned 16) (to_z-of_z w16 _ h)) ∙ sym (ap (λ (f : Function). body_of f a.bytes.now) c.in-TimeOffset.is)) (omega arith)
+    let e = c.from.ensures ∙ c.cast_unsigned.ensures ∙ ap (of_z w16) (to_z-of_z w16 _ h) ∙ as_unsigned c.in-TimeOffset.z in
+    c.store_at.ensures ∙ laid a.f a.bytes.now a.out.now c.requires 2 _ (ap (bytes 2) e ∙ sym (ap (λ (f : Function). body_of f a.bytes.now) c.in-TimeOffset.is)) (omega arith)
 
 pub returns-in-FrequencyOffset : goal.returns-in-FrequencyOffset
 unfolding body_of
@@ -58,7 +66,7 @@ pub returns-in-Power : goal.returns-in-Power
 unfolding body_of
 returns-in-Power c =
     let a = c.args in
-    c.store_at-in-Power.ensures ∙ laid a.f a.bytes.now a.out.now c.requires 2 _ (sym (ap (λ (f : Function). body_of f a.bytes.now) c.in-Power.is)) (omega arith)
+    c.store_at-in-Power.ensures ∙ laid a.f a.bytes.now a.out.now c.requires 2 _ (ap (bytes 2) c.from-in-Power.ensures ∙ sym (ap (λ (f : Function). body_of f a.bytes.now) c.in-Power.is)) (omega arith)
 
 pub returns-in-Cell : goal.returns-in-Cell
 unfolding body_of

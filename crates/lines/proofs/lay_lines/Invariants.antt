@@ -6,9 +6,10 @@ use Rattle.text.specs.Laid.{laid}
 use Rattle.lines.proofs.LineLaws.{lines_from}
 use Rattle.lines.proofs.lay_lines.Given as goal
 
-abbrev pub invariant-loop-at : goal.invariant-loop-at
-invariant-loop-at l =
-    (l.i ≤ length l.s) × (l.w + 2 * (length l.s - l.i) ≤ length l.lines) × (length l.lines ≡ length l.initial.lines) × (laid (lines_from (drop l.i l.s)) l.w l.lines ≡ laid (lines_from l.s) l.at l.initial.lines)
+abbrev pub invariant-loop-i : goal.invariant-loop-i
+invariant-loop-i l =
+    let t = l.text in
+    (l.i ≤ length l.s) × (t.at + 2 * (length l.s - l.i) ≤ length t.lines.now) × (t.lines.ghost_name ≡ l.initial.text.lines.ghost_name) × (laid (lines_from (drop l.i l.s)) t.at t.lines.now ≡ laid (lines_from l.s) l.initial.text.at l.initial.text.lines.now)
 
-abbrev pub decreases-loop-at : goal.decreases-loop-at
-decreases-loop-at l = length l.s - l.i
+abbrev pub decreases-loop-i : goal.decreases-loop-i
+decreases-loop-i l = length l.s - l.i

@@ -9,19 +9,19 @@ use Rattle.fields.specs.Parts.{overlay, stored_at}
 use Rattle.fields.proofs.NumberLaws.{length-bytes}
 use Rattle.fields.proofs.PartLaws.{length-overlay, overlay-next, stored-at}
 use Rattle.refusals.specs.Checks.{first}
-use Rattle.refusals.proofs.AnswerLaws.{written-number}
+use Rattle.refusals.proofs.AnswerLaws.{written-exit}
 use Rattle.stamp.proofs.FieldLaws.{front_number, back_number, bytes_halves, Writable, writable}
 use Rattle.stamp.proofs.RoundTrips.{write-accepted}
 use Rattle.stamp.specs.Write.{stamp_bytes, write_checks, write_of}
 use Rattle.stamp.specs.declared.Stamp.{Stamp}
 use Rattle.stamp.proofs.write.Goals as goal
-use Rattle.stamp.proofs.write.Goals.{Else-refusal-ne0}
+use Rattle.stamp.proofs.write.Goals.{In_ok-check_write}
 
 -- past the test the stamp is written
-passed : (c : Else-refusal-ne0) → first (write_checks c.args.stamp (length c.args.out.now)) ≡ 0
-passed c = sym c.write_refusal-refusal.ensures ∙ c.if-refusal-ne0.false
+passed : (c : In_ok-check_write) → first (write_checks c.args.stamp (length c.args.out.now)) ≡ 0
+passed c = sym c.in_ok-check_write.ensures
 
-well : (c : Else-refusal-ne0) → Writable c.args.stamp c.args.out.now
+well : (c : In_ok-check_write) → Writable c.args.stamp c.args.out.now
 well c = writable _ c.args.out.now (passed c)
 
 -- the two calls, one after the other
@@ -39,18 +39,18 @@ laid s out o1 o2 w e1 e2 =
     ∙ overlay-next 0 p q out 6 (omega arith) (omega arith)
     ∙ ap (λ (l : List ℕ). overlay 0 l out) (sym (bytes_halves s w.fit))
 
-pub returns-then-refusal-ne0 : goal.returns-then-refusal-ne0
+pub returns-in_err-check_write : goal.returns-in_err-check_write
 unfolding write_of
-returns-then-refusal-ne0 c = written-number _ _ _ _ c.write_refusal-refusal.ensures c.if-refusal-ne0.true
+returns-in_err-check_write c = written-exit _ _ _ _ _ c.from_residual.ensures.1 c.in_err-check_write.ensures
 
 pub overflow_add-front : goal.overflow_add-front
 overflow_add-front c =
-    let fit = (well (goal.at.overflow_add-front c).Else-refusal-ne0).fit in
+    let fit = (well (goal.at.overflow_add-front c).In_ok-check_write).fit in
     omega (arith, fit.1.0, fit.1.1.0)
 
 pub returns : goal.returns
 returns c =
     let a = c.args in
-    sym (write-accepted a.stamp a.out.now (passed (goal.at.returns c).Else-refusal-ne0)
+    sym (write-accepted a.stamp a.out.now (passed (goal.at.returns c).In_ok-check_write)
     ∙ ap (λ (l : List ℕ). record { answer = record { refusal = 0; bytes = 11 }; out = l })
-    (sym (laid a.stamp a.out.now _ _ (well (goal.at.returns c).Else-refusal-ne0) c.store_at.ensures c.store_at-2.ensures)))
+    (sym (laid a.stamp a.out.now _ _ (well (goal.at.returns c).In_ok-check_write) c.store_at.ensures c.store_at-2.ensures)))

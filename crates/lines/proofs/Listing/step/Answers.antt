@@ -1,4 +1,5 @@
 -- `lines::Listing::step` meets its contract: with room, the reader's call, the lines of what it wrote, and the totals.
+use borrow.Author.Rules.{rules}
 use borrow.Author.Tests.{leb-true}
 use lib.ListN.{length}
 use lib.Seq.{length-take-le}
@@ -40,11 +41,12 @@ pub slice_bounds-lay_lines-end-2 : goal.slice_bounds-lay_lines-end-2
 slice_bounds-lay_lines-end-2 c =
     sym (length-take-le c.gather-call.result.bytes c.gather-call.new.output (inside (goal.at.slice_bounds-lay_lines-end-2 c).After-gather-call))
 
-pub lay_lines-filled-requires : goal.lay_lines-filled-requires
-lay_lines-filled-requires c =
-    omega (arith, room (goal.at.lay_lines-filled-requires c).Else-not-has_room, inside (goal.at.lay_lines-filled-requires c).After-gather-call, c.gather-call.auto, length-take-le c.gather-call.result.bytes c.gather-call.new.output (inside (goal.at.lay_lines-filled-requires c).After-gather-call))
+pub lay_lines-requires : goal.lay_lines-requires
+lay_lines-requires c =
+    omega (arith, room (goal.at.lay_lines-requires c).Else-not-has_room, inside (goal.at.lay_lines-requires c).After-gather-call, c.gather-call.auto, length-take-le c.gather-call.result.bytes c.gather-call.new.output (inside (goal.at.lay_lines-requires c).After-gather-call))
 
 pub returns : goal.returns
 returns c =
     let a = c.args in
-    step-made a.self a.transport.now a.gathering.now a.output.now a.lines.now a.filled c.gather-call.result _ _ c.gather-call.ensures _ _ _ (spacious (goal.at.returns c).Else-not-has_room) c.lay_lines-filled.ensures c.after-listing.ensures
+    let e = step-made a.self a.transport.now a.gathering.now a.output.now a.lines.now a.filled c.gather-call.result _ _ c.gather-call.ensures _ _ _ (spacious (goal.at.returns c).Else-not-has_room) c.lay_lines.ensures.1 c.after-listing.ensures in
+    search rules

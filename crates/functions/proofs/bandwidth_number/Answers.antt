@@ -1,9 +1,0 @@
--- `functions::bandwidth_number` meets its contract: the code multiplies by the weights that the format gives its fields.
-use native.Mathlib.Omega.{arith}
-use Rattle.fields.specs.Formats.{pack}
-use Rattle.functions.proofs.KindLaws.{byte-bit}
-use Rattle.functions.proofs.bandwidth_number.Goals as goal
-
-pub returns : goal.returns
-unfolding pack
-returns c = rw (byte-bit c.args.wait) (omega arith)
