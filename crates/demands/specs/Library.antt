@@ -32,7 +32,7 @@ use Rattle.carry.specs.Carry as carrying
 use Rattle.gather.specs.State.{start_of}
 use Rattle.gather.specs.Gather as gathering
 use Rattle.gather.specs.declared.Reader.{Reader}
-use Rattle.gather.specs.declared.Started.{Started}
+use Rattle.gather.specs.State.{Started}
 
 -- an operation that writes takes the lent output as it was, and gives it as it then is
 pub record Library : Type 0 where

@@ -28,7 +28,7 @@ use Rattle.mip.specs.Read.{MipRead}
 use Rattle.transport.specs.Tests.{pid_outside}
 use Rattle.gather.specs.State.{start_of}
 use Rattle.gather.specs.Gather as gathering
-use Rattle.gather.specs.declared.Started.{Started}
+use Rattle.gather.specs.State.{Started}
 use Rattle.gather.proofs.StateLaws.{start-taken, fresh-fit}
 use Rattle.demands.specs.Demand1 as below
 use Rattle.demands.specs.Demand1.{Kept, Writes}

@@ -51,7 +51,7 @@ use Rattle.gather.specs.Marks.{no_marks}
 use Rattle.gather.specs.Rules.{brought_by, rule_one, up_to_start, from_start, rules_on}
 use Rattle.gather.specs.Gather as gathering
 use Rattle.gather.specs.declared.Reader.{Reader}
-use Rattle.gather.specs.declared.Started.{Started}
+use Rattle.gather.specs.State.{Started}
 use Rattle.demands.specs.Library.{Library, ours}
 use Rattle.demands.specs.Demand2.{Demand2}
 use Rattle.demands.specs.Demand2.Packet.{Packets}
