@@ -2,9 +2,11 @@
 // the lines of the T2-MI packets that it finishes. Where a line has no room nothing of it is laid.
 #![tactic(auto)]
 
-ghost use Rattle.std.specs.Prelude.{◌≡◌, ◌+◌, ◌*◌, ◌<◌, ◌≤◌, ◌++◌, length};
+ghost use Rattle.std.specs.Prelude.{◌≡◌, nat_eq, ◌+◌, ◌*◌, ◌<◌, ◌≤◌, ◌++◌, length};
 ghost use Rattle.arrayvec.specs.ArrayString.{array_string_len};
 ghost use Rattle.packet.specs.Cut.{cut};
+ghost use Rattle.packet.specs.Read.{packet_told};
+ghost use Rattle.refusals.specs.Refusals.{number_of};
 ghost use Rattle.text.specs.Laid.{word, Appends, Lays};
 ghost use Rattle.lines.specs.Lines.{head_line, fields_line, refused_line, line_by, lines_of, last_line};
 ghost use Rattle.lines.specs.Pieces.{pieces, kept_of};
@@ -13,7 +15,8 @@ ghost use Rattle.lines.specs.Listing.{start_listing, capped, bit, after_of, room
 use arrayvec::ArrayString;
 use gather::{Gathered, Reader};
 use itoa::Buffer;
-use packet::{Header, Packet};
+use packet::Header;
+use refusals::Refusal;
 use text::Text;
 
 // A line under way: at most five numbers, and what stands behind each.
@@ -62,22 +65,23 @@ fn fields_line(h: Header) -> Line
     ensures { result.bytes ≡ fields_line h }
 {
     let mut line = Line::new();
-    lay_word(&mut line, h.kind as u64, ' ');
-    lay_word(&mut line, h.count as u64, ' ');
-    lay_word(&mut line, h.frame as u64, ' ');
-    lay_word(&mut line, h.stream as u64, ' ');
-    lay_word(&mut line, h.bits as u64, '\n');
+    lay_word(&mut line, u64::from(h.kind), ' ');
+    lay_word(&mut line, u64::from(h.count), ' ');
+    lay_word(&mut line, u64::from(h.frame), ' ');
+    lay_word(&mut line, u64::from(h.stream), ' ');
+    lay_word(&mut line, u64::from(h.bits), '\n');
     line
 }
 
 // The line of a refusal.
 #[tactic(auto, unfolding(crate::specs::Lines::refused_line))]
-fn refused_line(refusal: u32) -> Line
-    ensures { result.bytes ≡ refused_line refusal }
+fn refused_line(refusal: Refusal) -> Line
+    ensures { result.bytes ≡ refused_line (number_of refusal) }
 {
     let mut line = Line::new();
     line.push_str("refused ");
-    lay_word(&mut line, refusal as u64, '\n');
+    lay_word(&mut line, u64::from(refusal.number()), '
+');
     line
 }
 
@@ -94,15 +98,22 @@ fn totals_line(packets: u64, gaps: u64) -> Line
     line
 }
 
-// Appends the line of what reading a packet gave. The line is made aside, so that all of it is laid or nothing.
-#[tactic(auto, unfolding(crate::specs::Lines::line_by))]
-pub fn line(text: &mut Text, p: Packet)
-    ensures { Appends (line_by p) text.old text.new }
+// The line of what reading a packet gave.
+#[tactic(auto, using(crate::proofs::LineLaws::told_refused, crate::proofs::LineLaws::told_fields))]
+fn read_line(p: Result<Header, Refusal>) -> Line
+    ensures { result.bytes ≡ line_by (packet_told p) }
 {
-    if p.refusal != 0 {
-        return text.append(refused_line(p.refusal).as_bytes());
+    match p {
+        Ok(h) => fields_line(h),
+        Err(refusal) => refused_line(refusal),
     }
-    text.append(fields_line(p.header).as_bytes());
+}
+
+// Appends the line of what reading a packet gave. The line is made aside, so that all of it is laid or nothing.
+pub fn line(text: &mut Text, p: Result<Header, Refusal>)
+    ensures { Appends (line_by (packet_told p)) text.old text.new }
+{
+    text.append(read_line(p).as_bytes());
 }
 
 // Appends the header.
@@ -111,6 +122,13 @@ pub fn head_line(text: &mut Text)
     ensures { Appends head_line text.old text.new }
 {
     text.append(b"type count frame stream bits\n");
+}
+
+// Whether reading a packet found its CRC wrong.
+fn crc_failed(p: Result<Header, Refusal>) -> bool
+    ensures { result ≡ nat_eq (packet_told p).refusal 14 }
+{
+    p == Err(Refusal::CrcWrong)
 }
 
 // Lays the lines of the packets of s, which stand back to back, up to the first that is not whole. Their CRC is judged by
@@ -127,7 +145,7 @@ fn lay_lines(text: &mut Text, s: &[u8])
         }
         let end = i + size;
         let p = packet::read(&s[i..end]);
-        if p.refusal == refusals::CRC_WRONG {
+        if crc_failed(p) {
             return;
         }
         line(text, p);

@@ -1,28 +1,29 @@
 -- Where a MIP's fields lie in four numbers that 64 bits hold, and what the two refusal lists say once they are passed.
 -- Assumes nothing.
 use mathlib.Core.Path.{◌≡◌, refl, sym, ap, ap₂, ◌∙◌}
-use mathlib.Core.Bool.{true, false}
+use mathlib.Core.Bool.{Bool, true, false, cond, not, ◌||◌}
 use mathlib.Core.List.{List, [], ◌∷◌, ◌++◌}
-use Prim.Native.Nat.{ℕ, ◌+◌, ◌-◌, ◌*◌, ◌^◌, ◌≤◌, ◌<◌}
+use Prim.Native.Nat.{ℕ, ◌+◌, ◌-◌, ◌*◌, ◌/◌, ◌%◌, ◌^◌, ◌≤◌, ◌<◌}
 use native.Mathlib.Omega.{arith}
 use lib.Dec.{eqb, ltb}
 use lib.ListN.{length, get_or, take, drop, length-drop}
 use lib.Seq.{take_all}
-use borrow.Author.Tests.{lt-ltb, eqb-true, ltb-false, leb-false, not-false}
+use borrow.Author.Tests.{lt-ltb, eq-eqb, eqb-true, eqb-false, ltb-false, leb-false, not-false}
+use Rattle.std.specs.List.{list_any}
 use Rattle.addressing.specs.Data.{house, fault_of}
 use Rattle.crc.specs.Crc.{crc_holds}
 use Rattle.fields.specs.Formats.{pack, unpack, Fit, too_wide}
 use Rattle.fields.specs.Numbers.{Bytes, number, bytes}
 use Rattle.fields.specs.Parts.{part, number_at}
 use Rattle.fields.proofs.Cases.{cases, true≢false}
-use Rattle.fields.proofs.FormatLaws.{not-too-wide, fit-not-wide}
+use Rattle.fields.proofs.FormatLaws.{unpack-fit, pack-unpack-mod, unpack-pack, unpack-append, not-too-wide, fit-not-wide, wide-last}
 use Rattle.fields.proofs.ByteFormatLaws.{unpack-parts, pack-parts}
 use Rattle.fields.proofs.PartLaws.{part-cons, part_none, number-at}
 use Rattle.refusals.specs.Checks.{first}
 use Rattle.refusals.proofs.CheckLaws.{none-holds, not_found}
 use Rattle.transport.specs.Header.{header, header_field, sync_of, count_of}
-use Rattle.mip.specs.Layout.{fixed_fields, parameters, parameters_of, section_of, crc_end, second}
-use Rattle.mip.specs.Read.{fixed_of, differ, parameter, addressing_length, addressing_of, section_wrong, not_all_ones, read_checks, mip_of, lead_of}
+use Rattle.mip.specs.Layout.{fixed_widths, fixed_fields, parameters, parameters_of, section_of, crc_end, second}
+use Rattle.mip.specs.Read.{fixed_of, differ, parameter, addressing_length, addressing_of, header_wrong, section_wrong, not_all_ones, read_checks, mip_of, lead_of}
 use Rattle.mip.specs.Write.{flag, header_fields, parameter_fields, lead_bytes, field_wide, write_checks}
 use Rattle.mip.specs.declared.Mip.{Mip}
 use Rattle.mip.specs.declared.reading.Lead.{Lead}
@@ -77,6 +78,7 @@ abbrev pub from_fields : List ℕ → List ℕ → Lead
 from_fields h f =
     record {
       sync = get_or h 0 0;
+      fixed = pack fixed_widths (take 6 (drop 1 h));
       id = get_or f 0 0;
       section = get_or f 1 0;
       addressing = get_or f 8 0;
@@ -96,6 +98,45 @@ pub lead-fields : (p : List ℕ) → lead_of p ≡ from_fields (header_of p) (pa
 unfolding mip_of
 lead-fields p = refl
 
+-- the fixed bits as one number: 20 bits that end before the last four
+pub fixed-number : (n : ℕ) → pack fixed_widths (take 6 (drop 1 (unpack header n))) ≡ n / 0x10 % 0x10_0000
+unfolding unpack
+fixed-number n =
+    ap (λ (l : List ℕ). pack fixed_widths (take 6 l)) (unpack-append fixed_widths (4 ∷ []) n) ∙ pack-unpack-mod fixed_widths (n / 2 ^ 4)
+
+fixed-fit : (p : List ℕ) → Fit fixed_widths (fixed_of p)
+unfolding header_field unpack
+fixed-fit p =
+    let f = unpack-fit header (number (get_or p 0 0 ∷ get_or p 1 0 ∷ get_or p 2 0 ∷ get_or p 3 0 ∷ [])) in
+    (f.1.0, (f.1.1.0, (f.1.1.1.0, (f.1.1.1.1.0, (f.1.1.1.1.1.0, (f.1.1.1.1.1.1.0, tt))))))
+
+differ-same : (xs : List ℕ) → differ xs xs ≡ false
+differ-same [] = refl
+differ-same (x ∷ xs) = rw (eq-eqb x x refl) (differ-same xs)
+
+differ-not : (xs ys : List ℕ) → differ xs ys ≡ false → xs ≡ ys
+differ-not [] [] h = refl
+differ-not [] (y ∷ ys) h = absurd (true≢false h)
+differ-not (x ∷ xs) [] h = absurd (true≢false h)
+differ-not (x ∷ xs) (y ∷ ys) h =
+    cases (eqb x y)
+    (λ t. ap₂ ◌∷◌ (eqb-true x y t) (differ-not xs ys (rw t at h)))
+    (λ t. absurd (true≢false (rw t at h)))
+
+-- fields that fit their widths differ where their numbers do
+differ-packed : (ws xs ys : List ℕ) → Fit ws xs → Fit ws ys → differ xs ys ≡ not (eqb (pack ws xs) (pack ws ys))
+differ-packed ws xs ys f g =
+    cases (eqb (pack ws xs) (pack ws ys))
+    (λ t. let e : xs ≡ ys = sym (unpack-pack ws xs f) ∙ ap (unpack ws) (eqb-true _ _ t) ∙ unpack-pack ws ys g in
+    rw t (ap (λ (l : List ℕ). differ l ys) e ∙ differ-same ys))
+    (λ t. cases (differ xs ys)
+    (λ d. rw (t, d))
+    (λ d. absurd (eqb-false _ _ t (ap (pack ws) (differ-not xs ys d)))))
+
+pub header-judged : (p : List ℕ) → header_wrong p ≡ not (eqb (pack fixed_widths (fixed_of p)) 0x6_0151)
+unfolding pack
+header-judged p = differ-packed fixed_widths (fixed_of p) fixed_fields (fixed-fit p) (omega arith, (omega arith, (omega arith, (omega arith, (omega arith, (omega arith, tt))))))
+
 -- ---- the parts that the code lends, where the addressing length is a
 
 module _ (p : List ℕ) (a : ℕ) (e : a ≡ addressing_length p) where
@@ -111,6 +152,11 @@ module _ (p : List ℕ) (a : ℕ) (e : a ≡ addressing_length p) where
   unfolding addressing_of part
   addressing-part = let n : 21 + a - 21 ≡ addressing_length p = omega arith in ap (λ (k : ℕ). take k (drop 21 p)) n
 
+-- some byte is not 0xFF
+pub ones-any : (l : List ℕ) → list_any (λ (b : ℕ). not (eqb b 0xFF)) l ≡ not_all_ones l
+ones-any [] = refl
+ones-any (b ∷ bs) = cases (eqb b 0xFF) (λ t. rw t (ones-any bs)) (λ t. rw t)
+
 -- ---- what is known of a packet that is read
 
 pub record Readable (p : List ℕ) : Type 0 where
@@ -125,15 +171,6 @@ pub record Readable (p : List ℕ) : Type 0 where
   pub delay : parameter 6 p < second
   pub stuffing : not_all_ones (drop (crc_end (addressing_length p)) p) ≡ false
   pub fault : (fault_of house (addressing_of p)).refusal ≡ 0
-
-differ-not : (xs ys : List ℕ) → differ xs ys ≡ false → xs ≡ ys
-differ-not [] [] h = refl
-differ-not [] (y ∷ ys) h = absurd (true≢false h)
-differ-not (x ∷ xs) [] h = absurd (true≢false h)
-differ-not (x ∷ xs) (y ∷ ys) h =
-    cases (eqb x y)
-    (λ t. ap₂ ◌∷◌ (eqb-true x y t) (differ-not xs ys (rw t at h)))
-    (λ t. absurd (true≢false (rw t at h)))
 
 pub section-right : (section addressing : ℕ) → section_wrong section addressing ≡ false → (section ≡ section_of addressing) × (addressing ≤ 163)
 section-right s a h =
@@ -227,6 +264,28 @@ module _ (m : Mip) (n : ℕ) where
   pub wide-alike : n ≤ 163 → field_wide m n ≡ field_wide m 0
   unfolding field_wide too_wide
   wide-alike h = rw (lt-ltb (19 + n) 256 (omega arith), lt-ltb n 256 (omega arith))
+
+-- four fields have fewer bits than the types that hold them
+flag-lt : (b : Bool) → ltb (flag b) 2 ≡ true
+flag-lt true = lt-ltb 1 2 (omega arith)
+flag-lt false = lt-ltb 0 2 (omega arith)
+
+over : (w n : ℕ) → ltb (2 ^ w - 1) n ≡ not (ltb n (2 ^ w))
+unfolding too_wide
+over w n = wide-last w n ∙ cases (ltb n (2 ^ w)) (λ t. rw t) (λ t. rw t)
+
+some-wide : (a b c d : Bool) → (not a || not b || not c || not d) ≡ cond (cond a false true) true (cond b (cond c (cond d false true) true) true)
+some-wide false b c d = refl
+some-wide true false c d = refl
+some-wide true true false d = refl
+some-wide true true true false = refl
+some-wide true true true true = refl
+
+pub wide-four : (m : Mip) → m.pointer < 2 ^ 16 → m.tps < 2 ^ 32 → (ltb 15 m.count || ltb 0x7fff m.future || ltb 0xff_ffff m.stamp.0 || ltb 0xff_ffff m.delay.0) ≡ field_wide m 0
+unfolding field_wide too_wide
+wide-four m p t =
+    rw (over 4 m.count, over 15 m.future, over 24 m.stamp.0, over 24 m.delay.0, lt-ltb m.pointer (2 ^ 16) p, flag-lt m.periodic, lt-ltb m.tps (2 ^ 32) t)
+    (some-wide (ltb m.count 16) (ltb m.future (2 ^ 15)) (ltb m.stamp.0 (2 ^ 24)) (ltb m.delay.0 (2 ^ 24)))
 
 -- ---- what is known of fields and addressing data that are written
 

@@ -1,16 +1,15 @@
--- The remainder of a sum that may be negative, over any modulus: it is below the modulus, and it is what the machine's
--- remainder, which has the sum's sign, is once it is put right.
+-- The remainder of a sum that may be negative, over any modulus: it is below the modulus, and it is the library's.
 -- Assumes nothing.
 use mathlib.Core.Path.{◌≡◌, refl, sym, ap, ◌∙◌}
-use mathlib.Core.Bool.{true, false}
-use Prim.Native.Nat.{ℕ, zero, suc, ◌+◌, ◌-◌, ◌*◌, ◌/◌, ◌%◌, ◌≤◌, ◌<◌, zero-le}
-use native.Mathlib.Nat.{mod-lt, mod_self, mod-eq_of_lt, mod-eq-sub-mod, suc-mod, add-mod_right, mod-add-div', div-le_self, zero-mul, suc-mul, not-suc-le-zero}
+use Prim.Native.Nat.{ℕ, zero, suc, ◌+◌, ◌-◌, ◌*◌, ◌/◌, ◌%◌, ◌≤◌, ◌<◌}
+use native.Mathlib.Nat.{mod-lt, mod-eq_of_lt, mod-eq-sub-mod, add-mod_right, mod-add-div', zero-mul, suc-mul}
 use native.Mathlib.Omega.{arith}
-use lib.Dec.{eqb, ltb}
-use lib.IntN.{ℤ, pos, negsuc, neg_ℤ, sub_ℕ, ◌+ℤ◌, ◌-ℤ◌, +ℤ_assoc, +ℤ_comm, +ℤ_idr}
-use lib.Signed.{mag, lt_z, quot_z, rem_z}
-use borrow.Author.Tests.{ltb-true, ltb-false, le-ltb, eqb-true, eqb-false}
-use Rattle.fields.proofs.Cases.{cases, true≢false}
+use lib.Dec.{ltb}
+use lib.IntN.{ℤ, pos, negsuc, sub_ℕ, ◌+ℤ◌, ◌-ℤ◌, +ℤ_assoc, +ℤ_comm, +ℤ_idr}
+use lib.Signed.{mag}
+use borrow.Author.Tests.{ltb-true, ltb-false, le-ltb}
+use Rattle.std.specs.Int.{int_rem_euclid}
+use Rattle.fields.proofs.Cases.{cases}
 use Rattle.mip.specs.Timing.{modulo}
 
 pub modulo-lt : (z : ℤ) (m : ℕ) → 0 < m → modulo z m < m
@@ -36,49 +35,15 @@ pub mag-sub : (n k : ℕ) → mag (pos n -ℤ pos k) ≤ n + k
 mag-sub n zero = omega arith
 mag-sub n (suc k) = omega (arith, mag-add n (negsuc k))
 
--- ---- the machine's quotient and remainder
+-- ---- the library's remainder, which is never negative, is the definition's
 
--- a quotient is no larger than what is divided
-pub mag-quotient : (z : ℤ) (m : ℕ) → mag (quot_z z (pos m)) ≤ mag z
-mag-quotient (pos n) m = div-le_self n m
-mag-quotient (negsuc k) m = negated (suc k / m) (div-le_self (suc k) m)
-  where
-    negated : (r : ℕ) → r ≤ suc k → mag (neg_ℤ (pos r)) ≤ k
-    negated zero h = zero-le
-    negated (suc r) h = omega arith
-
--- one more, within the modulus or up to it
-up : (k m : ℕ) → suc (k % m) < m → suc k % m ≡ suc (k % m)
-up k m h = suc-mod k m ∙ mod-eq_of_lt h
-
-round : (k m : ℕ) → suc (k % m) ≡ m → suc k % m ≡ 0
-round k m e = suc-mod k m ∙ ap (λ (x : ℕ). x % m) e ∙ mod_self m
-
-under : (k m : ℕ) → 0 < m → (suc (k % m) ≡ m → ⊥) → suc (k % m) < m
-under k m h n = omega (arith, mod-lt k h)
-
--- not negative: it is the remainder
-pub remainder-plain : (z : ℤ) (m : ℕ) → 0 < m → lt_z (rem_z z (pos m)) (pos 0) ≡ false → rem_z z (pos m) ≡ pos (modulo z m)
+pub euclid-modulo : (z : ℤ) (m : ℕ) → int_rem_euclid z (pos m) ≡ pos (modulo z m)
 unfolding modulo
-remainder-plain (pos n) m h t = refl
-remainder-plain (negsuc k) m h t =
-    cases (eqb (suc (k % m)) m)
-    (λ e. let e' : suc (k % m) ≡ m = eqb-true _ _ e in rw (round k m e') (ap pos (none (k % m) e')))
-    (λ e. absurd (true≢false (rw (up k m (under k m h (eqb-false _ _ e))) at t)))
+euclid-modulo (pos n) m = refl
+euclid-modulo (negsuc k) m = ap pos (less (k % m))
   where
-    none : (x : ℕ) → suc x ≡ m → 0 ≡ m - suc x
-    none x e = omega arith
-
--- negative: a modulus more is
-pub remainder-negative : (z : ℤ) (m : ℕ) → 0 < m → lt_z (rem_z z (pos m)) (pos 0) ≡ true → rem_z z (pos m) +ℤ pos m ≡ pos (modulo z m)
-unfolding modulo
-remainder-negative (pos n) m h t = absurd (not-suc-le-zero (ltb-true (n % m) 0 t))
-remainder-negative (negsuc k) m h t =
-    cases (eqb (suc (k % m)) m)
-    (λ e. absurd (true≢false (sym (rw (round k m (eqb-true _ _ e)) at t))))
-    (λ e. let l : suc (k % m) < m = under k m h (eqb-false _ _ e) in rw (up k m l) (sub-below m (suc (k % m)) (omega arith)))
-
--- ---- what makes it the remainder: it is the number itself below the modulus, and the modulus added changes nothing
+    less : (r : ℕ) → m - 1 - r ≡ m - suc r
+    less r = omega arith
 
 -- A theorem: below the modulus it is the number itself
 pub modulo-small : (n m : ℕ) → n < m → modulo (pos n) m ≡ n

@@ -13,10 +13,9 @@ use Rattle.refusals.specs.Checks.{first}
 use Rattle.refusals.proofs.AnswerLaws.{answer-accepted, answer-refused, answer-shows, written-accepted, written-refused, written-shows}
 use Rattle.mip.proofs.FieldLaws.{writable}
 use Rattle.mip.specs.Layout.{crc_end}
-use Rattle.mip.specs.Read.{addressing_length, addressing_of, read_checks, mip_of, no_mip, read_of, addressing_read}
+use Rattle.mip.specs.Read.{addressing_length, addressing_of, read_checks, mip_of, no_mip, read_of, addressing_read, MipRead}
 use Rattle.mip.specs.Write.{lead_bytes, front_bytes, mip_bytes, write_checks, write_of}
 use Rattle.mip.specs.declared.Mip.{Mip}
-use Rattle.mip.specs.declared.MipRead.{MipRead}
 
 -- ---- reading
 

@@ -14,9 +14,8 @@ use Rattle.refusals.proofs.CheckLaws.{none-holds, first-front, first-behind}
 use Rattle.refusals.proofs.AnswerLaws.{answer-accepted, answer-refused, answer-shows}
 use Rattle.mip.proofs.ModuloLaws.{modulo-lt, modulo-modulo}
 use Rattle.mip.specs.Layout.{second}
-use Rattle.mip.specs.Timing.{modulo, steps, over, emitted, held, emission_checks, extra_checks, time, timed, emission_of, extra_of}
+use Rattle.mip.specs.Timing.{modulo, steps, over, emitted, held, emission_checks, extra_checks, time, timed, emission_of, extra_of, Time}
 use Rattle.mip.specs.declared.Steps.{Steps}
-use Rattle.mip.specs.declared.Time.{Time}
 
 -- ---- an operation that gives a time
 

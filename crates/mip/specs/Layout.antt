@@ -10,6 +10,10 @@ use Rattle.fields.specs.Parts.{part}
 abbrev pub fixed_fields : List ℕ
 fixed_fields = 0 ∷ 1 ∷ 1 ∷ 0x15 ∷ 0 ∷ 1 ∷ []
 
+-- their widths
+abbrev pub fixed_widths : List ℕ
+fixed_widths = 1 ∷ 1 ∷ 1 ∷ 13 ∷ 2 ∷ 2 ∷ []
+
 -- synchronization_id 8, section_length 8, pointer 16, periodic_flag 1, future_use 15, synchronization_time_stamp 24,
 -- maximum_delay 24, tps_mip 32, individual_addressing_length 8
 abbrev pub parameters : List ℕ

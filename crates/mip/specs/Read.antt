@@ -1,14 +1,16 @@
 -- Reading a MIP (01: 1, 5, 30, 31, 32, 14, 33, 34, 35, then the check of the addressing data).
-use Rattle.std.specs.Prelude.{ℕ, Bool, true, false, cond, not, List, [], ◌∷◌, eqb, leb, ltb, length, get_or, take, drop}
+use Rattle.std.specs.Prelude.{ℕ, Bool, true, false, cond, not, List, [], ◌∷◌, eqb, leb, ltb, length, get_or, take, drop, Result}
 use Rattle.crc.specs.Crc.{crc_holds}
 use Rattle.fields.specs.Parts.{part}
 use Rattle.refusals.specs.Checks.{Check, ◌when◌}
-use Rattle.refusals.specs.Answers.{answer}
+use Rattle.refusals.specs.Answers.{answer, told}
+use Rattle.refusals.specs.declared.Refusal.{Refusal}
+use Rattle.fields.specs.Formats.{pack}
 use Rattle.addressing.specs.Data.{house, fault}
 use Rattle.transport.specs.Header.{sync_of, error_of, start_bit_of, priority_of, pid_of, scrambling_of, control_of, count_of}
-use Rattle.mip.specs.Layout.{fixed_fields, parameters_of, section_of, crc_end, second}
+use Rattle.mip.specs.Layout.{fixed_widths, fixed_fields, parameters_of, section_of, crc_end, second}
 use Rattle.mip.specs.declared.Mip.{Mip}
-use Rattle.mip.specs.declared.MipRead.{MipRead}
+use Rattle.mip.specs.declared.MipRead.{MipRead as CodeMipRead}
 use Rattle.mip.specs.declared.reading.Lead.{Lead}
 
 -- ---- the fields
@@ -85,11 +87,12 @@ mip_of p =
       tps = parameter 7 p;
     }
 
--- what stands before the addressing data, but for the header's fixed bits: only a private function cites this
+-- what stands before the addressing data: only private functions cite this
 abbrev pub lead_of : List ℕ → Lead
 lead_of p =
     record {
       sync = sync_of p;
+      fixed = pack fixed_widths (fixed_of p);
       id = parameter 0 p;
       section = parameter 1 p;
       addressing = addressing_length p;
@@ -107,6 +110,17 @@ no_mip =
       delay = record { 0 = 0 };
       tps = 0;
     }
+
+-- the fields, and how many bytes of addressing data there are; with a refusal its number, and zeros
+pub record MipRead : Type 0 where
+  pub refusal : ℕ
+  pub addressing : ℕ
+  pub mip : Mip
+
+-- what a result of `read` stands for
+abbrev pub mip_told : Result CodeMipRead Refusal → MipRead
+mip_told r =
+    told (λ n. record { refusal = n; addressing = 0; mip = no_mip }) (λ m. record { refusal = 0; addressing = m.addressing; mip = m.mip }) r
 
 unfoldable pub read_of : List ℕ → MipRead
 read_of p =

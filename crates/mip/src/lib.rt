@@ -10,11 +10,11 @@ pub use timing::{emission, extra_delay};
 pub use writing::write;
 
 // A number of 100 ns steps. The timestamps of T2-MI count in other units: the two never meet in one sum.
-#[derive(Clone, Copy)]
+#[derive(Clone, Copy, Debug, PartialEq, Eq)]
 pub struct Steps(pub u32);
 
 // The fields of a MIP, in the order of table 1b.
-#[derive(Clone, Copy)]
+#[derive(Clone, Copy, Debug, PartialEq, Eq)]
 pub struct Mip {
     pub count: u8,
     pub pointer: u16,
@@ -26,19 +26,8 @@ pub struct Mip {
 }
 
 // What reading a MIP gives: its fields, and how many bytes of addressing data it has, from byte 21 on.
-#[derive(Clone, Copy)]
+#[derive(Clone, Copy, Debug, PartialEq, Eq)]
 pub struct MipRead {
-    pub refusal: u32,
     pub addressing: usize,
     pub mip: Mip,
 }
-
-// A time of a site, or the refusal of its sum.
-#[derive(Clone, Copy)]
-pub struct Time {
-    pub refusal: u32,
-    pub steps: Steps,
-}
-
-// The steps of a second.
-const SECOND: u32 = 10_000_000;

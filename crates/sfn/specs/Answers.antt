@@ -5,7 +5,7 @@ use Rattle.functions.specs.declared.Function.{Function}
 use Rattle.functions.specs.declared.Function.TheVariants.{TimeOffset, FrequencyOffset, Power, Private, Cell, Enable, Bandwidth, Passed}
 use Rattle.functions.specs.Read.{function_told}
 use Rattle.sfn.specs.declared.SfnFunction.{SfnFunction}
-use Rattle.packet.specs.declared.Packet.{Packet}
+use Rattle.packet.specs.Read.{Packet}
 use Rattle.packet.specs.Layout.{size_of}
 use Rattle.stamp.specs.Layout.{kind_of}
 use Rattle.stamp.specs.declared.Stamp.{Stamp}

@@ -7,7 +7,7 @@ mod site;
 
 ghost use Rattle.std.specs.Prelude.{◌≡◌, ◌^◌, ◌<◌, cond, eqb, ltb, pos, length, None, Some};
 ghost use Rattle.crc.specs.Crc.{crc_of};
-ghost use Rattle.packet.specs.Read.{read_of};
+ghost use Rattle.packet.specs.Read.{read_of, packet_told};
 ghost use Rattle.packet.specs.Write.{write_of};
 ghost use Rattle.carry.specs.Carry.{carry_of};
 ghost use Rattle.functions.specs.Read.{function_read};
@@ -39,6 +39,31 @@ pub struct SfnPacket {
     pub stream: u8,
 }
 
+impl From<Result<Header, Refusal>> for SfnPacket {
+    ghost from_gives = { λ r p. p ≡ packet_of (packet_told r) };
+
+    fn from(answer: Result<Header, Refusal>) -> SfnPacket {
+        match answer {
+            Ok(h) => SfnPacket {
+                refusal: 0,
+                bits: h.bits,
+                kind: h.kind,
+                count: h.count,
+                frame: h.frame,
+                stream: h.stream,
+            },
+            Err(refusal) => SfnPacket {
+                refusal: refusal.number(),
+                bits: 0,
+                kind: 0,
+                count: 0,
+                frame: 0,
+                stream: 0,
+            },
+        }
+    }
+}
+
 // The register after the bytes.
 pub fn sfn_crc(bytes: &[u8]) -> u32
     ensures { result ≡ crc_of bytes.now }
@@ -60,16 +85,7 @@ pub fn sfn_packet_length(bytes: &[u8]) -> u32
 pub fn sfn_packet_read(slice: &[u8]) -> SfnPacket
     ensures { result ≡ packet_of (read_of slice.now) }
 {
-    let p = packet::read(slice);
-    let h = p.header;
-    SfnPacket {
-        refusal: p.refusal,
-        bits: h.bits,
-        kind: h.kind,
-        count: h.count,
-        frame: h.frame,
-        stream: h.stream,
-    }
+    packet::read(slice).into()
 }
 
 pub fn sfn_packet_write(
@@ -90,7 +106,7 @@ pub fn sfn_packet_write(
         stream,
         bits,
     };
-    packet::write(h, payload, out)
+    packet::write(h, payload, out).into()
 }
 
 // What reading a timestamp payload gives.
@@ -154,7 +170,7 @@ pub fn sfn_stamp_write(bw: u8, seconds: u64, subseconds: u32, utco: u16, out: &m
 pub fn sfn_carry(pid: u16, first_count: u8, batch: &[u8], out: &mut [u8]) -> Carried
     ensures { record { answer = result; out = out.new } ≡ carry_of pid first_count batch.now out.old }
 {
-    carry::carry(pid, first_count, batch, out)
+    carry::carry(pid, first_count, batch, out).into()
 }
 
 // C's kind of a function that is passed through; the others are their tags.

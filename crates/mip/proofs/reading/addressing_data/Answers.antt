@@ -1,34 +1,26 @@
 -- `mip::reading::addressing_data` meets its contract: what lies between the parameters and the CRC of an accepted packet.
 use mathlib.Core.Path.{◌≡◌, sym, ap, ◌∙◌}
 use native.Mathlib.Omega.{arith}
-use Rattle.refusals.specs.Checks.{first}
+use Rattle.refusals.proofs.NumberLaws.{number-not-0}
 use Rattle.mip.proofs.FieldLaws.{addressing-part, readable}
 use Rattle.mip.proofs.Operations.{read-refused, data-accepted}
-use Rattle.mip.specs.Read.{addressing_length, read_checks}
+use Rattle.mip.specs.Read.{addressing_length}
 use Rattle.mip.specs.declared.reading.Lead.{Lead}
 use Rattle.mip.proofs.reading.addressing_data.Goals as goal
-use Rattle.mip.proofs.reading.addressing_data.Goals.{After-lead_of-lead, Else-read_refusal-ne0}
+use Rattle.mip.proofs.reading.addressing_data.Goals.{After-from-end}
 
--- past the test the packet is read
-passed : (c : Else-read_refusal-ne0) → first (read_checks c.args.packet.now) ≡ 0
-passed c = sym c.read_refusal.ensures ∙ c.if-read_refusal-ne0.false
+length-is : (c : After-from-end) → c.from-end.result ≡ addressing_length c.args.packet.now
+length-is c = c.from-end.ensures ∙ ap (λ (l : Lead). l.addressing) c.in-Ok.ensures.lead
 
-length-is : (c : After-lead_of-lead) → c.lead_of-lead.result.addressing ≡ addressing_length c.args.packet.now
-length-is c = ap (λ (f : Lead). f.addressing) c.lead_of-lead.ensures
+pub slice_bounds-result-end : goal.slice_bounds-result-end
+slice_bounds-result-end c =
+    let r = readable c.args.packet.now (sym c.in-Ok.ensures.refusal) in
+    omega (arith, r.size, r.short, length-is (goal.at.slice_bounds-result-end c).After-from-end)
 
-pub returns-then-read_refusal-ne0 : goal.returns-then-read_refusal-ne0
-returns-then-read_refusal-ne0 c =
-    sym (read-refused c.args.packet.now (λ z. c.if-read_refusal-ne0.true (c.read_refusal.ensures ∙ z))).1
-
-pub lead_of-lead-requires : goal.lead_of-lead-requires
-lead_of-lead-requires c = (readable _ (passed c)).size
-
-pub returns : goal.returns
-returns c =
+pub returns-in-Ok : goal.returns-in-Ok
+returns-in-Ok c =
     let p = c.args.packet.now in
-    addressing-part p c.lead_of-lead.result.addressing (length-is (goal.at.returns c).After-lead_of-lead) ∙ sym (data-accepted p (passed (goal.at.returns c).Else-read_refusal-ne0))
+    addressing-part p c.from-end.result (length-is (goal.at.returns-in-Ok c).After-from-end) ∙ sym (data-accepted p (sym c.in-Ok.ensures.refusal))
 
-pub slice_bounds-result-end-2 : goal.slice_bounds-result-end-2
-slice_bounds-result-end-2 c =
-    let r = readable _ (passed (goal.at.slice_bounds-result-end-2 c).Else-read_refusal-ne0) in
-    omega (arith, r.size, r.short, length-is (goal.at.slice_bounds-result-end-2 c).After-lead_of-lead)
+pub returns-in-Err : goal.returns-in-Err
+returns-in-Err c = sym (read-refused c.args.packet.now (λ z. number-not-0 _ (c.in-Err.ensures.refusal ∙ z))).1

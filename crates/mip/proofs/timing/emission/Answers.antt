@@ -7,15 +7,15 @@ use lib.IntN.{ℤ, pos, ◌+ℤ◌}
 use mir.Facts.{to_z-of_z}
 use mir.Syntax.{w32, w64}
 use mir.Val.{SFits, to_z, of_z}
-use mir.ValLaws.{to_z_pos}
+use Rattle.fields.specs.Signed.{beyond_signed}
 use Rattle.refusals.specs.Checks.{first}
-use Rattle.refusals.proofs.AnswerLaws.{answer-number}
+use Rattle.refusals.proofs.AnswerLaws.{answer-number, answer-exit}
 use Rattle.mip.proofs.ModuloLaws.{mag-add}
 use Rattle.mip.proofs.TimingLaws.{emission-accepted}
 use Rattle.mip.specs.Layout.{second}
-use Rattle.mip.specs.Timing.{modulo, steps, time, emission_checks, emission_of}
+use Rattle.mip.specs.Timing.{modulo, steps, time, time_checks, emission_checks, emission_of}
 use Rattle.mip.proofs.timing.emission.Goals as goal
-use Rattle.mip.proofs.timing.emission.Goals.{After-emission_refusal-refusal}
+use Rattle.mip.proofs.timing.emission.Goals.{Else-outside}
 
 -- what the types of the three numbers tell
 record Summands (s d : ℕ) (z : ℤ) : Type 0 where
@@ -23,46 +23,48 @@ record Summands (s d : ℕ) (z : ℤ) : Type 0 where
   delay : d < 2 ^ 32
   offset : SFits w32 z
 
+-- a number as 64 bits keep it
+abbrev kept : ℤ → ℤ
+kept z = to_z w64 (of_z w64 z)
+
 -- the sum, as the machine makes it
 module _ {s d : ℕ} {z : ℤ} (f : Summands s d z) where
-  two : to_z w64 s +ℤ to_z w64 d ≡ pos (s + d)
-  two = ap₂ ◌+ℤ◌ (to_z_pos w64 s (omega arith)) (to_z_pos w64 d (omega arith))
+  first-two : kept (kept (pos s) +ℤ kept (pos d)) ≡ pos (s + d)
+  first-two =
+      ap kept (ap₂ ◌+ℤ◌ (to_z-of_z {w = w64} {z = pos s} (record { sfits = omega arith })) (to_z-of_z {w = w64} {z = pos d} (record { sfits = omega arith })))
+      ∙ to_z-of_z {w = w64} {z = pos (s + d)} (record { sfits = omega arith })
 
-  two-fit : SFits w64 (pos (s + d))
-  two-fit = record { sfits = omega arith }
+  third : kept (to_z w32 (of_z w32 z)) ≡ z
+  third = ap kept (to_z-of_z f.offset) ∙ to_z-of_z {w = w64} {z = z} (record { sfits = omega arith })
 
-  third : to_z w32 (of_z w32 z) ≡ z
-  third = to_z-of_z f.offset
+  all-three : kept (kept (kept (pos s) +ℤ kept (pos d)) +ℤ kept (to_z w32 (of_z w32 z))) ≡ pos (s + d) +ℤ z
+  all-three =
+      ap kept (ap₂ ◌+ℤ◌ first-two third) ∙ to_z-of_z {w = w64} {z = pos (s + d) +ℤ z} (record { sfits = omega (arith, mag-add (s + d) z) })
 
-  third-fits : SFits w64 z
-  third-fits = record { sfits = omega arith }
-
-  three : to_z w64 (of_z w64 (to_z w64 s +ℤ to_z w64 d)) +ℤ to_z w64 (of_z w64 (to_z w32 (of_z w32 z))) ≡ pos (s + d) +ℤ z
-  three =
-      ap₂ ◌+ℤ◌ (ap (λ (y : ℤ). to_z w64 (of_z w64 y)) two ∙ to_z-of_z two-fit)
-      (ap (λ (y : ℤ). to_z w64 (of_z w64 y)) third ∙ to_z-of_z third-fits)
-
-  three-fit : SFits w64 (pos (s + d) +ℤ z)
-  three-fit = record { sfits = omega (arith, mag-add (s + d) z) }
-
-  kept : to_z w64 (of_z w64 (to_z w64 (of_z w64 (to_z w64 s +ℤ to_z w64 d)) +ℤ to_z w64 (of_z w64 (to_z w32 (of_z w32 z))))) ≡ pos (s + d) +ℤ z
-  kept = ap (λ (y : ℤ). to_z w64 (of_z w64 y)) three ∙ to_z-of_z three-fit
-
-judged : (c : After-emission_refusal-refusal) → c.emission_refusal-refusal.result ≡ first (emission_checks c.args.stamp c.args.delay c.args.offset)
+-- past the test of the offset the times are judged
+judged : (c : Else-outside) → first (emission_checks c.args.stamp c.args.delay c.args.offset) ≡ first (time_checks c.args.stamp c.args.delay)
+unfolding emission_checks
 judged c =
-    c.emission_refusal-refusal.ensures
-    ∙ ap (λ (z : ℤ). first (emission_checks c.args.stamp c.args.delay z)) (to_z-of_z c.ranges.offset)
+    rw (sym (ap (beyond_signed 16) (to_z-of_z c.ranges.offset)) ∙ sym c.outside.ensures ∙ c.if-outside.false)
 
-pub returns-then-refusal-ne0 : goal.returns-then-refusal-ne0
+pub returns-then-outside : goal.returns-then-outside
+unfolding emission_of emission_checks
+returns-then-outside c =
+    answer-number (emission_checks c.args.stamp c.args.delay c.args.offset) (λ (n : ℕ). time n (steps 0)) _ 38 (sym (rw (sym (ap (beyond_signed 16) (to_z-of_z c.ranges.offset)) ∙ sym c.outside.ensures ∙ c.if-outside.true))) (λ e. omega arith)
+
+pub returns-in_err-check_times : goal.returns-in_err-check_times
 unfolding emission_of
-returns-then-refusal-ne0 c =
-    let a = c.args in
-    answer-number (emission_checks a.stamp a.delay a.offset) _ _ _ (judged (goal.at.returns-then-refusal-ne0 c).After-emission_refusal-refusal) c.if-refusal-ne0.true
+returns-in_err-check_times c =
+    answer-exit (emission_checks c.args.stamp c.args.delay c.args.offset) _ _ _ _ _ c.from_residual.ensures.1
+    (c.in_err-check_times.ensures ∙ sym (judged (goal.at.returns-in_err-check_times c).Else-outside))
 
 pub returns : goal.returns
 returns c =
     let a = c.args in
     let f : Summands a.stamp.0 a.delay.0 a.offset =
     record { stamp = search rules; delay = search rules; offset = c.ranges.offset } in
-    ap (λ (n : ℕ). time 0 (steps n)) (c.modulo_second-steps.ensures ∙ ap (λ (z : ℤ). modulo z second) (kept f))
-    ∙ sym (emission-accepted a.stamp a.delay a.offset (sym (judged (goal.at.returns c).After-emission_refusal-refusal) ∙ c.if-refusal-ne0.false))
+    ap (time 0) (c.modulo_second.ensures ∙ ap (λ (z : ℤ). steps (modulo z second))
+    (ap₂ (λ (x : ℤ) (y : ℤ). kept (kept (kept x +ℤ kept y) +ℤ kept c.from-3.result)) c.from.ensures c.from-2.ensures
+    ∙ ap (λ (y : ℤ). kept (kept (kept (pos a.stamp.0) +ℤ kept (pos a.delay.0)) +ℤ kept y)) c.from-3.ensures
+    ∙ all-three f))
+    ∙ sym (emission-accepted a.stamp a.delay a.offset (judged (goal.at.returns c).Else-outside ∙ sym c.in_ok-check_times.ensures))

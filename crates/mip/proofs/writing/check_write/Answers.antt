@@ -1,29 +1,29 @@
--- `mip::writing::write_refusal` meets its contract: a chain of early returns in the order of the definition's list.
-use borrow.Author.Tests.{lt-ltb, le-ltb, le-leb, lt-leb, eq-eqb, ne_eqb}
+-- `mip::writing::check_write` meets its contract: a chain of early returns in the order of the definition's list.
+use borrow.Author.Tests.{lt-ltb, le-ltb, eq-eqb, ne_eqb}
 use mathlib.Core.Path.{◌≡◌, sym, ap, ◌∙◌}
 use mathlib.Core.Bool.{not}
-use mathlib.Core.List.{List}
+use mathlib.Core.List.{List, [], ◌∷◌}
+use lib.Dec.{ltb}
 use lib.ListN.{length}
-use Rattle.refusals.specs.Checks.{Check}
-use Rattle.refusals.proofs.CheckLaws.{Clear, first-at, first-none}
-use Rattle.addressing.specs.Data.{house, fault_of}
-use Rattle.addressing.specs.declared.Fault.{Fault}
+use Rattle.refusals.specs.Checks.{Check, ◌when◌}
+use Rattle.refusals.proofs.CheckLaws.{Clear, first-at, first-none, first-front, none-holds}
+use Rattle.refusals.proofs.NumberLaws.{number-not-0}
+use Rattle.addressing.specs.Data.{Fault, house, fault}
+use Rattle.addressing.proofs.ExitLaws.{code-exit}
 use Rattle.mip.proofs.FieldLaws.{wide-alike}
+use Rattle.mip.specs.Timing.{time_checks}
 use Rattle.mip.specs.Write.{field_wide, write_checks}
-use Rattle.mip.proofs.writing.write_refusal.Goals as goal
-use Rattle.mip.proofs.writing.write_refusal.Goals.{After-check-fault, After-field_too_wide, Else-addressing-gt163, Else-fault-ne0, Else-field_too_wide, Else-m-ge-SECOND, Else-m-ge-SECOND-2, Else-room-lt188}
+use Rattle.mip.proofs.writing.check_write.Goals as goal
+use Rattle.mip.proofs.writing.check_write.Goals.{After-field_too_wide, Else-addressing-gt163, Else-field_too_wide, In_ok-check_times, In_ok-check}
 
 abbrev to1 : Else-field_too_wide → Else-addressing-gt163
 to1 c = (goal.at.Else-field_too_wide c).Else-addressing-gt163
 
-abbrev to2 : Else-m-ge-SECOND → Else-field_too_wide
-to2 c = (goal.at.Else-m-ge-SECOND c).Else-field_too_wide
+abbrev to2 : In_ok-check_times → Else-field_too_wide
+to2 c = (goal.at.In_ok-check_times c).Else-field_too_wide
 
-abbrev to3 : Else-m-ge-SECOND-2 → Else-m-ge-SECOND
-to3 c = (goal.at.Else-m-ge-SECOND-2 c).Else-m-ge-SECOND
-
-abbrev to4 : Else-fault-ne0 → Else-m-ge-SECOND-2
-to4 c = (goal.at.Else-fault-ne0 c).Else-m-ge-SECOND-2
+abbrev to4 : In_ok-check → In_ok-check_times
+to4 c = (goal.at.In_ok-check c).In_ok-check_times
 
 abbrev checks : Else-addressing-gt163 → List Check
 checks c =
@@ -34,10 +34,6 @@ checks c =
 width-judged : (c : After-field_too_wide) → c.field_too_wide.result ≡ field_wide c.args.m (length c.args.addressing.now)
 width-judged c = c.field_too_wide.ensures ∙ sym (wide-alike _ _ c.if-addressing-gt163.false)
 
--- what the check of the data said
-data-judged : (c : After-check-fault) → c.check-fault.result.refusal ≡ (fault_of house c.args.addressing.now).refusal
-data-judged c = ap (λ (f : Fault). f.refusal) c.check-fault.ensures
-
 past1 : (c : Else-addressing-gt163) → Clear 1 (checks c)
 unfolding write_checks
 past1 c = (tt, le-ltb _ _ c.if-addressing-gt163.false)
@@ -46,21 +42,15 @@ past2 : (c : Else-field_too_wide) → Clear 2 (checks (to1 c))
 unfolding write_checks
 past2 c = (past1 (to1 c), sym (width-judged (goal.at.Else-field_too_wide c).After-field_too_wide) ∙ c.if-field_too_wide.false)
 
-past3 : (c : Else-m-ge-SECOND) → Clear 3 (checks (to1 (to2 c)))
+past4 : (c : In_ok-check_times) → Clear 4 (checks (to1 (to2 c)))
 unfolding write_checks
-past3 c = (past2 (to2 c), lt-leb _ _ c.if-m-ge-SECOND.false)
+past4 c =
+    let n = none-holds (time_checks c.args.m.stamp c.args.m.delay) tt (sym c.in_ok-check_times.ensures) in
+    ((past2 (to2 c), n.0), n.1.0)
 
-past4 : (c : Else-m-ge-SECOND-2) → Clear 4 (checks (to1 (to2 (to3 c))))
+past5 : (c : In_ok-check) → Clear 5 (checks (to1 (to2 (to4 c))))
 unfolding write_checks
-past4 c = (past3 (to3 c), lt-leb _ _ c.if-m-ge-SECOND-2.false)
-
-past5 : (c : Else-fault-ne0) → Clear 5 (checks (to1 (to2 (to3 (to4 c)))))
-unfolding write_checks
-past5 c = (past4 (to4 c), ap not (eq-eqb _ _ (sym (data-judged (goal.at.Else-fault-ne0 c).After-check-fault) ∙ c.if-fault-ne0.false)))
-
-past6 : (c : Else-room-lt188) → Clear 6 (checks (to1 (to2 (to3 (to4 (goal.at.Else-room-lt188 c).Else-fault-ne0)))))
-unfolding write_checks
-past6 c = (past5 (goal.at.Else-room-lt188 c).Else-fault-ne0, le-ltb _ _ c.if-room-lt188.false)
+past5 c = (past4 (to4 c), ap not (eq-eqb _ _ (sym (ap (λ (f : Fault). f.refusal) c.in_ok-check.ensures))))
 
 pub returns-then-addressing-gt163 : goal.returns-then-addressing-gt163
 unfolding write_checks
@@ -73,27 +63,30 @@ unfolding write_checks
 returns-then-field_too_wide c =
     first-at 1 (checks (goal.at.returns-then-field_too_wide c).Else-addressing-gt163) (past1 (goal.at.returns-then-field_too_wide c).Else-addressing-gt163) (sym (width-judged (goal.at.returns-then-field_too_wide c).After-field_too_wide) ∙ c.if-field_too_wide.true)
 
-pub returns-then-m-ge-SECOND : goal.returns-then-m-ge-SECOND
+pub returns-in_err-check_times : goal.returns-in_err-check_times
 unfolding write_checks
-returns-then-m-ge-SECOND c =
-    first-at 2 (checks (to1 (goal.at.returns-then-m-ge-SECOND c).Else-field_too_wide)) (past2 (goal.at.returns-then-m-ge-SECOND c).Else-field_too_wide) (le-leb _ _ c.if-m-ge-SECOND.true)
+returns-in_err-check_times c =
+    let e = c.in_err-check_times.ensures in
+    let p = past2 (goal.at.returns-in_err-check_times c).Else-field_too_wide in
+    code-exit _ _ _ c.from_residual.ensures.1
+    (e ∙ sym (rw (p.0.1, p.1) (first-front (time_checks c.args.m.stamp c.args.m.delay) (fault house c.args.addressing.now ∷ 16 when ltb c.args.room 188 ∷ []) (λ z. number-not-0 _ (e ∙ z)))))
 
-pub returns-then-m-ge-SECOND-2 : goal.returns-then-m-ge-SECOND-2
+pub returns-in_err-check : goal.returns-in_err-check
 unfolding write_checks
-returns-then-m-ge-SECOND-2 c =
-    first-at 3 (checks (to1 (to2 (goal.at.returns-then-m-ge-SECOND-2 c).Else-m-ge-SECOND))) (past3 (goal.at.returns-then-m-ge-SECOND-2 c).Else-m-ge-SECOND) (le-leb _ _ c.if-m-ge-SECOND-2.true)
-
-pub returns-then-fault-ne0 : goal.returns-then-fault-ne0
-unfolding write_checks
-returns-then-fault-ne0 c =
-    let n = data-judged (goal.at.returns-then-fault-ne0 c).After-check-fault in
-    n ∙ first-at 4 (checks (to1 (to2 (to3 (goal.at.returns-then-fault-ne0 c).Else-m-ge-SECOND-2)))) (past4 (goal.at.returns-then-fault-ne0 c).Else-m-ge-SECOND-2) (ap not (ne_eqb _ _ (λ z. c.if-fault-ne0.true (n ∙ z))))
+returns-in_err-check c =
+    let e = ap (λ (f : Fault). f.refusal) c.in_err-check.ensures in
+    let p = (goal.at.returns-in_err-check c).In_ok-check_times in
+    code-exit _ _ _ c.from_residual-in_err-check.ensures.1
+    (e ∙ first-at 4 (checks (to1 (to2 p))) (past4 p) (ap not (ne_eqb _ _ (λ z. number-not-0 _ (e ∙ z)))))
 
 pub returns-then-room-lt188 : goal.returns-then-room-lt188
 unfolding write_checks
 returns-then-room-lt188 c =
-    first-at 5 (checks (to1 (to2 (to3 (to4 (goal.at.returns-then-room-lt188 c).Else-fault-ne0))))) (past5 (goal.at.returns-then-room-lt188 c).Else-fault-ne0) (lt-ltb _ _ c.if-room-lt188.true)
+    let p = (goal.at.returns-then-room-lt188 c).In_ok-check in
+    first-at 5 (checks (to1 (to2 (to4 p)))) (past5 p) (lt-ltb _ _ c.if-room-lt188.true)
 
 pub returns : goal.returns
 unfolding write_checks
-returns c = first-none (checks (to1 (to2 (to3 (to4 (goal.at.returns c).Else-fault-ne0))))) (past6 c)
+returns c =
+    let p = (goal.at.returns c).In_ok-check in
+    first-none (checks (to1 (to2 (to4 p)))) (past5 p, le-ltb _ _ c.if-room-lt188.false)

@@ -1,10 +1,10 @@
 -- `mip::writing::lay_lead` meets its contract: the four numbers, laid back to back, are the header and the parameters.
 use lib.ListN.{length, length-append}
-use mathlib.Core.Path.{◌≡◌, refl, sym, ap, ◌∙◌}
+use mathlib.Core.Path.{◌≡◌, refl, sym, ap, ap₂, ◌∙◌}
 use mathlib.Core.Bool.{Bool, true, false}
 use mathlib.Core.List.{List, ◌++◌, append_assoc}
 use mir.Val.{bool_byte}
-use Prim.Native.Nat.{ℕ, ◌+◌, ◌*◌, ◌^◌, ◌≤◌}
+use Prim.Native.Nat.{ℕ, ◌+◌, ◌*◌, ◌≤◌}
 use native.Mathlib.Omega.{arith}
 use Rattle.fields.specs.Formats.{Fit}
 use Rattle.fields.specs.Numbers.{bytes}
@@ -49,7 +49,11 @@ returns c =
     let start = (goal.at.returns c).Start in
     let m = start.args.m in
     let n = start.args.addressing in
-    laid m n start.args.out.now _ _ _ _ (wide-fit m n start.requires.0).1 start.requires.2 c.store_at.ensures
-    (c.store_at-2.ensures ∙ ap (λ (b : ℕ). stored_at 4 6 ((19 + n) * 2 ^ 32 + (m.pointer * 2 ^ 16 + (b * 2 ^ 15 + m.future))) c.store_at.new.dst) (byte-is m.periodic))
-    c.store_at-3.ensures
-    c.store_at-4.ensures
+    let two : (19 + n) * 0x1_0000_0000 + (c.from.result * 0x1_0000 + (c.from-periodic.result * 0x8000 + c.from-2.result)) ≡ head_number m n =
+    ap₂ (λ (x y : ℕ). (19 + n) * 0x1_0000_0000 + (x * 0x1_0000 + y)) c.from.ensures
+    (ap₂ (λ (x y : ℕ). x * 0x8000 + y) (c.from-periodic.ensures ∙ byte-is m.periodic) c.from-2.ensures) in
+    laid m n start.args.out.now _ _ _ _ (wide-fit m n start.requires.0).1 start.requires.2
+    (c.store_at.ensures ∙ ap (λ (x : ℕ). stored_at 0 4 (0x4760_1510 + x) start.args.out.now) c.from-header.ensures)
+    (c.store_at-2.ensures ∙ ap (λ (x : ℕ). stored_at 4 6 x c.store_at.new.dst) two)
+    (c.store_at-3.ensures ∙ ap (λ (x : ℕ). stored_at 10 6 x c.store_at-2.new.dst) (ap₂ (λ (x y : ℕ). x * 0x100_0000 + y) c.from-3.ensures c.from-4.ensures))
+    (c.store_at-4.ensures ∙ ap (λ (x : ℕ). stored_at 16 5 (x * 0x100 + n) c.store_at-3.new.dst) c.from-5.ensures)

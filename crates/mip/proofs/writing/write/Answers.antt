@@ -9,19 +9,19 @@ use Rattle.crc.proofs.OwnLaws.{sealed-next}
 use Rattle.fields.specs.Parts.{overlay, copied_to, filled_at}
 use Rattle.fields.proofs.LaidLaws.{copied_next, filled_next}
 use Rattle.refusals.specs.Checks.{first}
-use Rattle.refusals.proofs.AnswerLaws.{written-number}
+use Rattle.refusals.proofs.AnswerLaws.{written-exit}
 use Rattle.mip.proofs.FieldLaws.{fit_wide, Writable, writable}
 use Rattle.mip.proofs.Operations.{length-lead, length_front, length-end, write-accepted}
 use Rattle.mip.specs.Write.{lead_bytes, front_bytes, mip_bytes, write_checks, write_of}
 use Rattle.mip.specs.declared.Mip.{Mip}
 use Rattle.mip.proofs.writing.write.Goals as goal
-use Rattle.mip.proofs.writing.write.Goals.{After-lay_lead, Else-refusal-ne0}
+use Rattle.mip.proofs.writing.write.Goals.{In_ok-check_write}
 
 -- past the test the fields and the data are written
-passed : (c : Else-refusal-ne0) → first (write_checks c.args.m c.args.addressing.now (length c.args.out.now)) ≡ 0
-passed c = sym c.write_refusal-refusal.ensures ∙ c.if-refusal-ne0.false
+passed : (c : In_ok-check_write) → first (write_checks c.args.m c.args.addressing.now (length c.args.out.now)) ≡ 0
+passed c = sym c.in_ok-check_write.ensures
 
-well : (c : Else-refusal-ne0) → Writable c.args.m c.args.addressing.now c.args.out.now
+well : (c : In_ok-check_write) → Writable c.args.m c.args.addressing.now c.args.out.now
 well c = writable _ _ c.args.out.now (passed c)
 
 -- the four calls, one after the other
@@ -54,22 +54,22 @@ module _ (m : Mip) (d out : List ℕ) (short : length d ≤ 163) (room : 188 ≤
       let three : o3 ≡ overlay 0 (sealed front) out = e3 ∙ ap (sealed_at end) two ∙ with-crc in
       e4 ∙ ap (filled_at (end + 4) (188 - (end + 4)) 0xFF) three ∙ with-stuffing
 
-pub returns-then-refusal-ne0 : goal.returns-then-refusal-ne0
+pub returns-in_err-check_write : goal.returns-in_err-check_write
 unfolding write_of
-returns-then-refusal-ne0 c = written-number _ _ _ _ c.write_refusal-refusal.ensures c.if-refusal-ne0.true
+returns-in_err-check_write c = written-exit _ _ _ _ _ c.from_residual.ensures.1 c.in_err-check_write.ensures
 
 pub lay_lead-requires : goal.lay_lead-requires
 lay_lead-requires c =
-    let w = well (goal.at.lay_lead-requires c).Else-refusal-ne0 in
+    let w = well (goal.at.lay_lead-requires c).In_ok-check_write in
     (fit_wide _ _ w.header w.fit, w.short, omega (arith, w.room))
 
 pub overflow_sub-after : goal.overflow_sub-after
 overflow_sub-after c =
-    omega (arith, (well (goal.at.overflow_sub-after c).Else-refusal-ne0).short)
+    omega (arith, (well (goal.at.overflow_sub-after c).In_ok-check_write).short)
 
 pub returns : goal.returns
 returns c =
-    let e = (goal.at.returns c).Else-refusal-ne0 in
+    let e = (goal.at.returns c).In_ok-check_write in
     let a = c.args in
     let w = well e in
     sym (write-accepted a.m a.addressing.now a.out.now (passed e)

@@ -2,10 +2,10 @@
 use native.Mathlib.Omega.{arith}
 use mathlib.Core.Path.{ap}
 use Rattle.addressing.specs.Data.{house}
-use Rattle.addressing.specs.declared.PayloadRead.{PayloadRead}
+use Rattle.addressing.specs.Payload.{PayloadRead}
 use Rattle.sfn.proofs.CountLaws.{payload-few}
 use Rattle.sfn.proofs.site.sfn_addressing_read.Goals as goal
 
-pub count_32-bytes-requires : goal.count_32-bytes-requires
-count_32-bytes-requires c =
-    omega (arith, ap (λ (r : PayloadRead). r.bytes) c.payload_read-p.ensures, payload-few house c.args.payload.now (λ i. (c.shared_slice_known-1.given i).fits))
+pub count_32-requires : goal.count_32-requires
+count_32-requires c =
+    omega (arith, ap (λ (r : PayloadRead). r.bytes) c.in-Ok.ensures, payload-few house c.args.payload.now (λ i. (c.type_inv.payload i).fits))

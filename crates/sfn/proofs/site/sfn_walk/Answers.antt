@@ -4,8 +4,8 @@ use Rattle.addressing.specs.Data.{house}
 use Rattle.sfn.proofs.CountLaws.{WalkFits, walk-fits}
 use Rattle.sfn.proofs.site.sfn_walk.Goals as goal
 
-pub step_flat-requires : goal.step_flat-requires
-step_flat-requires c =
+pub walked_flat-requires : goal.walked_flat-requires
+walked_flat-requires c =
     let a = c.args in
-    let w = subst WalkFits (sym c.walk_from-w.ensures) (walk-fits house a.addressed.now a.transmitter a.place) in
+    let w = subst WalkFits (sym c.in-Ok.ensures) (walk-fits house a.addressed.now a.transmitter a.place) in
     (w.next, w.step)

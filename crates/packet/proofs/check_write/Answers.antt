@@ -1,10 +1,10 @@
--- `packet::write_refusal` meets its contract: a chain of early returns in the order of the definition's list.
+-- `packet::check_write` meets its contract: a chain of early returns in the order of the definition's list.
 use Rattle.std.proofs.Common.{not, List, sym, ap, ◌∙◌, le-ltb, lt-ltb, eq-eqb, ne_eqb}
 use Rattle.refusals.specs.Checks.{Check}
 use Rattle.refusals.proofs.CheckLaws.{Clear, first-at, first-none}
 use Rattle.packet.specs.Write.{write_checks}
-use Rattle.packet.proofs.write_refusal.Goals as goal
-use Rattle.packet.proofs.write_refusal.Goals.{Else-field_too_wide, Else-pad_set, Else-payload-n, Else-reserved_type, Else-room-size, Start}
+use Rattle.packet.proofs.check_write.Goals as goal
+use Rattle.packet.proofs.check_write.Goals.{Else-field_too_wide, Else-pad_set, Else-payload-n, Else-reserved_type, Else-room-size, Start}
 
 abbrev checks : Start → List Check
 checks c = write_checks c.args.h c.args.payload.now c.args.room

@@ -1,4 +1,4 @@
--- `packet::read_refusal` meets its contract: a chain of early returns in the order of the definition's list.
+-- `packet::check_read` meets its contract: a chain of early returns in the order of the definition's list.
 use Rattle.std.proofs.Common.{◌≡◌, ℕ, ◌-◌, not, List, length, take, drop, sym, ap, ◌∙◌, ap₂, le-ltb, lt-ltb, eq-eqb, ne_eqb, rules}
 use Rattle.refusals.specs.Checks.{Check}
 use Rattle.refusals.proofs.CheckLaws.{Clear, first-at, first-none}
@@ -6,8 +6,8 @@ use Rattle.packet.proofs.FieldLaws.{payload-part}
 use Rattle.packet.specs.Layout.{reserved_type, pad_set}
 use Rattle.packet.specs.Read.{field, header_of, payload_of, read_checks}
 use Rattle.packet.specs.declared.Header.{Header}
-use Rattle.packet.proofs.read_refusal.Goals as goal
-use Rattle.packet.proofs.read_refusal.Goals.{After-pad_set, After-reserved_type, Else-not-holds, Else-pad_set, Else-reserved_set, Else-reserved_type, Else-s-lt10, Else-s-size, Start}
+use Rattle.packet.proofs.check_read.Goals as goal
+use Rattle.packet.proofs.check_read.Goals.{After-pad_set, After-reserved_type, Else-not-holds, Else-pad_set, Else-reserved_set, Else-reserved_type, Else-s-lt10, Else-s-size, Start}
 
 abbrev checks : Start → List Check
 checks c = read_checks c.args.s.now
