@@ -72,7 +72,7 @@ fn value_reserved(v: u8) -> bool
 }
 
 // Whether a bandwidth function's value is reserved. It stands in the top seven bits of the body's first byte.
-#[tactic(auto, unfolding(crate::specs::Tags::bandwidth_reserved, crate::specs::Tags::value_reserved, fields::specs::Formats::unpack))]
+#[tactic(auto, unfolding(crate::specs::Tags::bandwidth_reserved, fields::specs::Formats::unpack))]
 pub fn bandwidth_reserved(tag: u8, first: u8) -> bool
     ensures { result ≡ bandwidth_reserved tag first }
 {
