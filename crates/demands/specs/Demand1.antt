@@ -23,25 +23,22 @@ use Rattle.functions.specs.declared.Function.TheVariants.{TimeOffset}
 use Rattle.functions.specs.Read.{FunctionRead}
 use Rattle.addressing.specs.Data.{house}
 use Rattle.addressing.specs.Payload as addressing
-use Rattle.addressing.specs.Walk.{walk_checks}
-use Rattle.addressing.specs.declared.PayloadRead.{PayloadRead}
-use Rattle.addressing.specs.declared.Step.TheVariants.{End}
-use Rattle.addressing.specs.declared.Walked.{Walked}
+use Rattle.addressing.specs.Walk.{walk_checks, End, Walked}
+use Rattle.addressing.specs.Payload.{PayloadRead}
 use Rattle.mip.specs.Read as mip
 use Rattle.mip.specs.Write as mip_writing
-use Rattle.mip.specs.Timing.{emission_checks, extra_checks}
+use Rattle.mip.specs.Timing.{emission_checks, extra_checks, Time}
 use Rattle.mip.specs.declared.Mip.{Mip}
-use Rattle.mip.specs.declared.MipRead.{MipRead}
+use Rattle.mip.specs.Read.{MipRead}
 use Rattle.mip.specs.declared.Steps.{Steps}
-use Rattle.mip.specs.declared.Time.{Time}
 use Rattle.transport.specs.Tests.{pid_outside}
 use Rattle.carry.specs.Carry as carrying
 use Rattle.gather.specs.State.{unfit, gather_checks}
 use Rattle.gather.specs.Marks.{no_marks}
 use Rattle.gather.specs.Gather as gathering
-use Rattle.gather.specs.declared.Last.TheVariants.{Count}
+use Rattle.std.specs.Prelude.{Some}
 use Rattle.gather.specs.declared.Reader.{Reader}
-use Rattle.gather.specs.declared.Started.{Started}
+use Rattle.gather.specs.State.{Started}
 use Rattle.demands.specs.Library.{Library}
 
 -- ---- what is asked of every operation
@@ -106,7 +103,7 @@ abbrev pub no_time : ℕ → Time
 no_time n = record { refusal = n; steps = record { 0 = 0 } }
 
 abbrev pub no_reader : ℕ → Started
-no_reader n = record { refusal = n; reader = record { pid = 0; last = Count 0; in_step = false; waiting = 0 } }
+no_reader n = record { refusal = n; reader = record { pid = 0; last = Some 0; in_step = false; waiting = 0 } }
 
 -- ---- carriage
 

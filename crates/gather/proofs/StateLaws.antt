@@ -28,7 +28,7 @@ use Rattle.gather.specs.State.{fresh, no_reader, start_of, waits_out_of_step, un
 use Rattle.gather.specs.Rules.{none, Brought, brought_by, Hand, lost, misfits, crc_fails, waits, hands_out, out_of_turn, reaches, strays, rule_one, up_to_start, unfinished, from_start, rules_on}
 use Rattle.gather.specs.Gather.{Outcome, in_hand, entered_of, result_of, refused_of, taken_of, gather_of}
 use Rattle.gather.specs.Theorems.{InOrder}
-use Rattle.gather.specs.declared.Last.{Last}
+use Rattle.std.specs.Prelude.{Option}
 use Rattle.gather.specs.declared.Reader.{Reader}
 use Rattle.gather.proofs.RefusalLaws.{Fit, fit_parts, fit-whole}
 use Rattle.gather.proofs.EnterLaws.{rule-lost, rule-altered, rule-kept}
@@ -51,7 +51,7 @@ fresh-fit pid h = rw h
 
 -- ---- each stage by its cases
 
-pub rule-cases : (P : Hand → Type 0) (last : Last) (count : ℕ) (h : Hand) → P (lost h) → P (misfits h) → (reaches h.waiting ≡ false → P h) → P (rule_one last count h)
+pub rule-cases : (P : Hand → Type 0) (last : Option ℕ) (count : ℕ) (h : Hand) → P (lost h) → P (misfits h) → (reaches h.waiting ≡ false → P h) → P (rule_one last count h)
 rule-cases P last count h gone altered kept =
     cases (out_of_turn last count)
     (λ b. rw (rule-lost last count h b) gone)
@@ -90,7 +90,7 @@ rest-short-by (suc k) l i b =
 pub rest-short : (l : List ℕ) → (cut l).bad ≡ false → length (cut l).rest < size_of (cut l).rest
 rest-short l b = rest-short-by (length l) l (omega arith) b
 
-pub rule-order : (last : Last) (count : ℕ) (h : Hand) → (h.step ≡ false → h.waiting ≡ []) → InOrder (rule_one last count h)
+pub rule-order : (last : Option ℕ) (count : ℕ) (h : Hand) → (h.step ≡ false → h.waiting ≡ []) → InOrder (rule_one last count h)
 rule-order last count h i =
     rule-cases InOrder last count h (empty-order (lost h) refl) (empty-order (misfits h) refl) (λ r. record { short = leb-false _ _ r; idle = i })
 

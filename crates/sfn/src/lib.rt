@@ -287,8 +287,8 @@ fn flag(n: u8) -> Option<bool>
     }
 }
 
-// The function that C's arguments make, where n bytes come with them: a tag like its kind, no bytes but for the kinds that
-// carry a body, and values that fit. None, for which 38 is answered, where they make none.
+// The function that C's arguments make, where n bytes come with them: a tag like its kind, no bytes but for the kinds
+// that carry a body, and values that fit. None, for which 38 is answered, where they make none.
 #[tactic(auto, unfolding(crate::specs::Making::made_of))]
 fn function_from(
     kind: u8,

@@ -20,13 +20,12 @@ use Rattle.functions.specs.declared.Function.{Function}
 use Rattle.functions.specs.declared.Function.TheVariants.{Power}
 use Rattle.addressing.specs.Data.{house, entries_by, entries_in, group_checks, function_checks, function_at, fault_in, fault_of}
 use Rattle.addressing.specs.Payload as addressing
-use Rattle.addressing.specs.Walk.{reached, given, walk_checks, refused, walk_of}
-use Rattle.addressing.specs.declared.PayloadRead.{PayloadRead}
-use Rattle.addressing.specs.declared.Walked.{Walked}
+use Rattle.addressing.specs.Walk.{reached, given, walk_checks, refused, walk_of, Walked}
+use Rattle.addressing.specs.Payload.{PayloadRead}
 use Rattle.transport.specs.Tests.{pid_outside}
 use Rattle.gather.specs.State.{fresh, unfit, gather_checks}
 use Rattle.gather.specs.Gather as gathering
-use Rattle.gather.specs.declared.Last.TheVariants.{Nothing}
+use Rattle.std.specs.Prelude.{None}
 use Rattle.gather.specs.declared.Reader.{Reader}
 use Rattle.demands.specs.Demand1.{Demand1}
 use Rattle.demands.proofs.Wrong.Changed.{reading, bodied, addressed, walked, gathered_by}
@@ -64,7 +63,7 @@ walk-refuses-all d = let e : ◌≡◌ {A = ℕ} 27 0 = (d.walk [] 1 0).numbered
 
 -- a good state, in step with one byte waiting; an empty slice is refused as 1
 abbrev waits : Reader
-waits = record { pid = 32; last = Nothing; in_step = true; waiting = 1 }
+waits = record { pid = 32; last = None; in_step = true; waiting = 1 }
 
 -- another answer in place of each refusal
 abbrev refusing : (Reader → List ℕ → List ℕ → ℕ → gathering.Outcome) → Reader → List ℕ → List ℕ → List ℕ → gathering.Outcome
