@@ -21,6 +21,11 @@ use Rattle.std.specs.Prelude.{Option}
 use Rattle.gather.specs.declared.Reader.{Reader}
 use Rattle.gather.specs.declared.Numbers.{Numbers}
 
+-- ---- as a call begins
+
+pub unmarked : (m : Marks) → (m.loss ≡ false) × ((m.misfit ≡ false) × (m.crc ≡ false)) → m ≡ no_marks
+unmarked m h = λ i. record { loss = h.0 i; misfit = h.1.0 i; crc = h.1.1 i }
+
 -- ---- bytes that reach their own length
 
 pub nothing-reaches : reaches [] ≡ false

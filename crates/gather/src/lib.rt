@@ -8,7 +8,6 @@ ghost use Rattle.refusals.specs.Answers.{code};
 ghost use Rattle.packet.specs.Layout.{size_of};
 ghost use Rattle.transport.specs.Look.{stands_in, seen_told};
 ghost use Rattle.gather.specs.State.{start_of, started_told, count_over, unfit, gather_checks};
-ghost use Rattle.gather.specs.Marks.{no_marks};
 ghost use Rattle.gather.specs.Rules.{out_of_turn, reaches, rule_one};
 ghost use Rattle.gather.specs.Gather.{in_hand, gather_of, gathered_told};
 ghost use Rattle.gather.specs.Phases.{dropped_in, lost_in, misfits_in, crc_fails_in, waits_in, hands_out_in, answer_by, numbers, Ready, led_of, with_start_of, followed_of};
@@ -28,7 +27,7 @@ pub struct Reader {
 }
 
 // The marks of a call.
-#[derive(Clone, Copy, Debug, PartialEq, Eq)]
+#[derive(Clone, Copy, Debug, Default, PartialEq, Eq)]
 pub struct Marks {
     pub loss: bool,
     pub misfit: bool,
@@ -36,7 +35,7 @@ pub struct Marks {
 }
 
 // What a call gives: the bytes and packets written, and the marks.
-#[derive(Clone, Copy, Debug, PartialEq, Eq)]
+#[derive(Clone, Copy, Debug, Default, PartialEq, Eq)]
 pub struct Gathered {
     pub bytes: usize,
     pub packets: usize,
@@ -91,19 +90,6 @@ fn out_of_turn(last: Option<u8>, count: u8) -> bool
     ensures { result ≡ out_of_turn last count }
 {
     last.is_some_and(|n| count as usize != (n as usize + 1) % 16)
-}
-
-impl Marks {
-    // As a call begins.
-    fn none() -> Marks
-        ensures { result ≡ no_marks }
-    {
-        Marks {
-            loss: false,
-            misfit: false,
-            crc: false,
-        }
-    }
 }
 
 // The steps of specs/Rules.antt, on numbers: the three that set a mark, and those that set none.
@@ -323,7 +309,7 @@ impl Reader {
             waiting: self.waiting,
             bytes: 0,
             packets: 0, // nothing is handed out yet
-            marks: Marks::none(),
+            marks: Marks::default(),
         };
         if out_of_turn(self.last, count) {
             return held.lost();
