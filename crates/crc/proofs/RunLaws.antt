@@ -5,10 +5,9 @@ use mathlib.Core.Path.{◌≡◌, refl, sym, ◌∙◌}
 use mathlib.Core.List.{List, [], ◌∷◌, ◌++◌}
 use Prim.Native.Nat.{ℕ, suc, ◌+◌, ◌*◌, ◌^◌, ◌≤◌, ◌<◌}
 use native.Mathlib.Nat.{mul-suc, add_comm}
-use native.Mathlib.Numerals.{add-one}
-use lib.ListN.{length, get_or, drop, drop_of_length-le}
-use lib.Seq.{drop-cons}
+use lib.ListN.{length, drop, drop_of_length-le}
 use lib.Bits.{bit_xor}
+use Rattle.std.specs.List.{fold}
 use Rattle.fields.specs.Numbers.{Bytes, number}
 use Rattle.fields.proofs.NumberLaws.{bytes-tail, number_lt, number-cons}
 use Rattle.crc.specs.Crc.{feed, run}
@@ -56,12 +55,13 @@ run-injective a b [] ha hb e = e
 run-injective a b (x ∷ l) ha hb e =
     feed-injective 8 a b x ha hb (run-injective (feed 8 a x) (feed 8 b x) l (feed-lt 8 a x ha) (feed-lt 8 b x hb) e)
 
--- ---- the bytes from index i on, for a loop over them
-
-pub run-next : (r i : ℕ) (l : List ℕ) → i < length l → run (feed 8 r (get_or l i 0)) (drop (i + 1) l) ≡ run r (drop i l)
+-- a fold over the bytes, one by one
+pub run_fold : (r : ℕ) (l : List ℕ) → fold (feed 8) r l ≡ run r l
 unfolding run
-run-next r i l h = rw (add-one i, drop-cons l i 0 h)
+run_fold r [] = refl
+run_fold r (b ∷ l) = run_fold (feed 8 r b) l
 
+-- past the end no bytes are left
 pub run_end : (r i : ℕ) (l : List ℕ) → length l ≤ i → run r (drop i l) ≡ r
 unfolding run
 run_end r i l h = rw (drop_of_length-le l h)

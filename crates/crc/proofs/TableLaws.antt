@@ -3,18 +3,20 @@
 -- the list.
 -- Assumes nothing.
 use mathlib.Core.Path.{◌≡◌, refl, sym, ap, ap₂, ◌∙◌}
-use mathlib.Core.List.{List, [], ◌∷◌, ◌++◌}
+use mathlib.Core.List.{List, [], ◌∷◌}
 use Prim.Native.Nat.{ℕ, zero, suc, ◌+◌, ◌*◌, ◌/◌, ◌%◌, ◌^◌, ◌≤◌, ◌<◌}
-use native.Mathlib.Nat.{add-zero, add-suc, suc-add, div-eq_of_lt, lt_of_le_of_lt}
+use native.Mathlib.Nat.{add-zero, add-suc, suc-add, div-eq_of_lt, div-one, lt_of_le_of_lt}
 use native.Mathlib.Omega.{arith}
 use lib.ListN.{length, get_or, take, drop, take-append-drop}
-use lib.Seq.{drop-drop}
+use lib.Seq.{take-add}
 use lib.Pow.{shr-shr, shr_le}
 use lib.Bits.{bit_xor, xor_lt, xor_shifted, xor_comm, xor_zero_r}
+use Rattle.std.specs.List.{fold}
+use Rattle.std.specs.Simd.{first_chunks}
 use Rattle.fields.specs.Numbers.{Bytes, number}
 use Rattle.fields.specs.Parts.{part}
 use Rattle.fields.proofs.NumberLaws.{number_lt, four_bytes}
-use Rattle.fields.proofs.PartLaws.{length_part, part_bytes, part_none, part-add, part-cons}
+use Rattle.fields.proofs.PartLaws.{length_part, part_bytes, part_none, part-whole, part-add, part-cons}
 use Rattle.crc.specs.Crc.{feed, run}
 use Rattle.crc.specs.Tables.{zeros, Tables}
 use Rattle.crc.proofs.XorLaws.{xor_assoc}
@@ -49,33 +51,36 @@ digit-off base x h =
     ∙ ap₂ bit_xor (other-digits base (x / 16) (omega arith)) (last-digit base (x % 16) (omega arith))
     ∙ xor_comm (zeros (4 * (base + 1 + 8)) (x / 16)) (zeros (4 * (base + 1)) (x % 16 * 2 ^ 28))
 
--- one turn of a loop over the eight digits, the last one first: the sum so far, and what zero digits leave of the others
-pub digit-turn : (base j sum entry rest whole : ℕ) → rest < 2 ^ 32 → entry ≡ zeros (4 * (base + j + 1)) (rest % 16 * 2 ^ 28)
-    → bit_xor sum (zeros (4 * (base + j + 8)) rest) ≡ whole → bit_xor (bit_xor sum entry) (zeros (4 * (base + (j + 1) + 8)) (rest / 16)) ≡ whole
-digit-turn base j sum entry rest whole h e inv =
-    let n : 4 * (base + (j + 1) + 8) ≡ 4 * (base + j + 1 + 8) = omega arith in
-    xor_assoc sum entry (zeros (4 * (base + (j + 1) + 8)) (rest / 16))
-    ∙ ap (bit_xor sum) (ap₂ bit_xor e (ap (λ (k : ℕ). zeros k (rest / 16)) n) ∙ sym (digit-off (base + j) rest h))
-    ∙ inv
-
-digits-left : (j register : ℕ) → register / 2 ^ (4 * j) / 16 ≡ register / 2 ^ (4 * (j + 1))
-digits-left j register =
-    let n : 4 * j + 4 ≡ 4 * (j + 1) = omega arith in
-    shr-shr register (4 * j) 4 ∙ ap (λ (k : ℕ). register / 2 ^ k) n
-
-pub rest-turn : (j register rest : ℕ) → rest ≡ register / 2 ^ (4 * j) → rest / 16 ≡ register / 2 ^ (4 * (j + 1))
-rest-turn j register rest e = ap (λ (x : ℕ). x / 16) e ∙ digits-left j register
-
 pub rest_lt : (k register rest : ℕ) → register < 2 ^ 32 → rest ≡ register / 2 ^ k → rest < 2 ^ 32
 rest_lt k register rest h e = rw e (lt_of_le_of_lt (shr_le register k) h)
 
--- after eight turns no digit is left
-pub digits-end : (base j sum rest register whole : ℕ) → j ≡ 8 → register < 2 ^ 32 → rest ≡ register / 2 ^ (4 * j)
-    → bit_xor sum (zeros (4 * (base + j + 8)) rest) ≡ whole → sum ≡ whole
-digits-end base j sum rest register whole n h e inv =
-    let gone : register / 2 ^ 32 ≡ 0 = div-eq_of_lt h in
-    let none : rest ≡ 0 = e ∙ ap (λ (k : ℕ). register / 2 ^ (4 * k)) n ∙ gone in
-    sym (xor_zero_r sum) ∙ ap (bit_xor sum) (sym (zeros-none (4 * (base + j + 8)))) ∙ ap (λ (x : ℕ). bit_xor sum (zeros (4 * (base + j + 8)) x)) (sym none) ∙ inv
+-- what the sum so far and the digits from j on give, and one turn of a loop over the eight digits, the last one first
+abbrev pub with_rest : ℕ → ℕ → ℕ → ℕ → ℕ
+with_rest base register sum j = bit_xor sum (zeros (4 * (base + j + 8)) (register / 2 ^ (4 * j)))
+
+module _ (base register : ℕ) (h : register < 2 ^ 32) where
+  pub no_digit : with_rest base register 0 0 ≡ zeros (4 * (base + 8)) register
+  no_digit = xor_comm 0 _ ∙ xor_zero_r _ ∙ ap₂ (λ (m x : ℕ). zeros (4 * (m + 8)) x) (add-zero base) (div-one register)
+
+  pub digit-turn : (j sum entry : ℕ) → entry ≡ zeros (4 * (base + j + 1)) (register / 2 ^ (4 * j) % 16 * 2 ^ 28)
+      → with_rest base register (bit_xor sum entry) (j + 1) ≡ with_rest base register sum j
+  digit-turn j sum entry e =
+      let rest : ℕ = register / 2 ^ (4 * j) in
+      let width : 4 * (base + (j + 1) + 8) ≡ 4 * (base + j + 1 + 8) = omega arith in
+      let shifted : 4 * j + 4 ≡ 4 * (j + 1) = omega arith in
+      let others : register / 2 ^ (4 * (j + 1)) ≡ rest / 16 =
+      sym (shr-shr register (4 * j) 4 ∙ ap (λ (k : ℕ). register / 2 ^ k) shifted) in
+      let small : rest < 2 ^ 32 = rest_lt (4 * j) register rest h refl in
+      xor_assoc sum entry (zeros (4 * (base + (j + 1) + 8)) (register / 2 ^ (4 * (j + 1))))
+      ∙ ap (bit_xor sum) (ap₂ bit_xor e (ap₂ zeros width others) ∙ sym (digit-off (base + j) rest small))
+
+  -- after eight turns no digit is left
+  pub all_digits : (j sum : ℕ) → j ≡ 8 → with_rest base register sum j ≡ sum
+  all_digits j sum e =
+      let none : register / 2 ^ (4 * j) ≡ 0 = ap (λ (k : ℕ). register / 2 ^ (4 * k)) e ∙ div-eq_of_lt h in
+      ap (λ (x : ℕ). bit_xor sum (zeros (4 * (base + j + 8)) x)) none
+      ∙ ap (bit_xor sum) (zeros-none (4 * (base + j + 8)))
+      ∙ xor_zero_r sum
 
 -- ---- a byte by its two digits
 
@@ -139,13 +144,32 @@ run-eight r i l hr bl h =
     ∙ zeros-xor 32 (zeros 32 x) (number (part (i + 4) 4 l)) (feed-lt 32 x 0 hx) nb
     ∙ ap (λ (y : ℕ). bit_xor y (zeros 32 (number (part (i + 4) 4 l)))) (sym (zeros-add 32 32 x))
 
--- the bytes from i on, for a loop over eight at a time
-pub eight-next : (r i : ℕ) (l : List ℕ) → run (run r (part i 8 l)) (drop (i + 8) l) ≡ run r (drop i l)
-unfolding part
-eight-next r i l =
-    sym (run-append r (take 8 (drop i l)) (drop (i + 8) l))
-    ∙ ap (λ (m : List ℕ). run r (take 8 (drop i l) ++ m)) (sym (drop-drop 8 i l))
-    ∙ ap (run r) (take-append-drop 8 (drop i l))
+-- a list of eight, by the numbers of its halves
+pub run_of_eight : (r : ℕ) (l : List ℕ) (first second : ℕ) → r < 2 ^ 32 → Bytes l → length l ≡ 8
+    → first ≡ number (part 0 4 l) → second ≡ number (part 4 4 l)
+    → bit_xor (zeros 64 (bit_xor r first)) (zeros 32 second) ≡ run r l
+run_of_eight r l first second hr bl e f g =
+    ap₂ (λ (x y : ℕ). bit_xor (zeros 64 (bit_xor r x)) (zeros 32 y)) f g
+    ∙ sym (run-eight r 0 l hr bl (omega arith))
+    ∙ ap (λ (n : ℕ). run r (part 0 n l)) (sym e)
+    ∙ ap (run r) (part-whole l)
+
+-- k lists of eight after each other
+run_chunks : (k r : ℕ) (l : List ℕ) → fold run r (first_chunks 8 k l) ≡ run r (take (k * 8) l)
+unfolding run
+run_chunks zero r l = refl
+run_chunks (suc k) r l =
+    let e : 8 + k * 8 ≡ suc k * 8 = omega arith in
+    run_chunks k (run r (take 8 l)) (drop 8 l)
+    ∙ sym (run-append r (take 8 l) (take (k * 8) (drop 8 l)))
+    ∙ ap (run r) (sym (take-add 8 (k * 8) l) ∙ ap (λ (n : ℕ). take n l) e)
+
+-- all bytes, so many eights and then the last ones
+pub run_eights : (k r : ℕ) (l : List ℕ) → run (fold run r (first_chunks 8 k l)) (drop (k * 8) l) ≡ run r l
+run_eights k r l =
+    ap (λ (s : ℕ). run s (drop (k * 8) l)) (run_chunks k r l)
+    ∙ sym (run-append r (take (k * 8) l) (drop (k * 8) l))
+    ∙ ap (run r) (take-append-drop (k * 8) l)
 
 -- ---- a table's rule, by one computed test
 
@@ -176,7 +200,3 @@ tables-rule n {t} e = record { long = omega (arith, ap length e, length-values e
         let part : (0 + (16 * j + k)) / 16 ≡ j = omega arith in
         let digit : (0 + (16 * j + k)) % 16 ≡ k = omega arith in
         rw (e, get_or-values entry_at 0 (16 * n) (16 * j + k) (omega arith), part, digit)
-
--- the first of them are tables too
-pub fewer : (m n : ℕ) (t : List ℕ) → m ≤ n → Tables n t → Tables m t
-fewer m n t h r = record { long = omega (arith, r.long); entry = λ j k hj hk. r.entry j k (omega arith) hk }

@@ -1,6 +1,7 @@
-// Table j serves a digit of four bits that has j digits behind it. Its entry k is what j + 1 zero digits leave of a register with
-// k in its top four stages and nothing below. The proof of `crc` computes every entry from the definition and compares.
-pub const TABLES: [u32; 256] = [
+// Table j serves a digit of four bits that has j digits behind it. Its entry k is what j + 1 zero digits leave of a
+// register with k in its top four stages and nothing below. The proof of `look` computes every entry from the definition
+// and compares. A static, so that it is read where it lies: an indexed constant would be laid out anew in each call.
+pub static TABLES: [u32; 256] = [
     0x0000_0000,
     0x04c1_1db7,
     0x0982_3b6e,
@@ -257,40 +258,4 @@ pub const TABLES: [u32; 256] = [
     0x6a38_56ba,
     0x9890_a350,
     0x3548_049b,
-];
-
-// The first two of them, which are all that single bytes need: less to lay out where there are only a few.
-pub const FIRST: [u32; 32] = [
-    0x0000_0000,
-    0x04c1_1db7,
-    0x0982_3b6e,
-    0x0d43_26d9,
-    0x1304_76dc,
-    0x17c5_6b6b,
-    0x1a86_4db2,
-    0x1e47_5005,
-    0x2608_edb8,
-    0x22c9_f00f,
-    0x2f8a_d6d6,
-    0x2b4b_cb61,
-    0x350c_9b64,
-    0x31cd_86d3,
-    0x3c8e_a00a,
-    0x384f_bdbd,
-    0x0000_0000,
-    0x4c11_db70,
-    0x9823_b6e0,
-    0xd432_6d90,
-    0x3486_7077,
-    0x7897_ab07,
-    0xaca5_c697,
-    0xe0b4_1de7,
-    0x690c_e0ee,
-    0x251d_3b9e,
-    0xf12f_560e,
-    0xbd3e_8d7e,
-    0x5d8a_9099,
-    0x119b_4be9,
-    0xc5a9_2679,
-    0x89b8_fd09,
 ];

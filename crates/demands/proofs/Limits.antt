@@ -20,8 +20,7 @@ use Rattle.carry.proofs.Theorems.{pid-small}
 use Rattle.gather.specs.State.{count_over, unfit, repeats}
 use Rattle.gather.specs.Rules.{none, Brought, brought_by, Hand, hands_out, out_of_turn, reaches, unfinished, up_to_start, rules_on}
 use Rattle.gather.specs.Gather.{Outcome, in_hand, entered_of, refused_of, taken_of, gather_of}
-use Rattle.gather.specs.declared.Last.{Last}
-use Rattle.gather.specs.declared.Last.TheVariants.{Count}
+use Rattle.std.specs.Prelude.{Option, Some}
 use Rattle.gather.specs.declared.Reader.{Reader}
 use Rattle.gather.proofs.RefusalLaws.{fit_parts, carriage-taken}
 use Rattle.gather.proofs.EnterLaws.{rule-lost, rule-altered, rule-kept}
@@ -61,7 +60,7 @@ pub record Takes (loss : Bool) (o : Outcome) : Type 0 where
   pub refusal : o.answer.refusal ≡ 0
   pub loss-is : o.answer.marks.loss ≡ loss
 
-module _ (s : Reader) (n : ℕ) (l : Load) (g o : List ℕ) (fit : unfit s ≡ false) (last : s.last ≡ Count n) (sound : Sound l) (room : 8202 ≤ length g) (space : 8385 ≤ length o) where
+module _ (s : Reader) (n : ℕ) (l : Load) (g o : List ℕ) (fit : unfit s ≡ false) (last : s.last ≡ Some n) (sound : Sound l) (room : 8202 ≤ length g) (space : 8385 ≤ length o) where
   -- the writer's next one to come
   abbrev after : ℕ → List ℕ
   after j = transport_of s.pid ((n + 1 + j) % 16) l
@@ -70,7 +69,7 @@ module _ (s : Reader) (n : ℕ) (l : Load) (g o : List ℕ) (fit : unfit s ≡ f
   small-pid = pid-small s.pid (fit_parts s fit).inside
 
   small_count : n < 16
-  small_count = let c : count_over (Count n) ≡ false = rw last at (fit_parts s fit).counted in omega (arith, ltb-false 15 n c)
+  small_count = let c : count_over (Some n) ≡ false = rw last at (fit_parts s fit).counted in omega (arith, ltb-false 15 n c)
 
   module _ (j : ℕ) where
     abbrev c : ℕ
@@ -91,13 +90,13 @@ module _ (s : Reader) (n : ℕ) (l : Load) (g o : List ℕ) (fit : unfit s ≡ f
     -- it is taken where its count is another, and what rule 1 marked is told
     takes : (loss : Bool) → (c ≡ n → ⊥) → (entered_of s (after j) g).marks.loss ≡ loss → Takes loss (gather_of s (after j) g o)
     takes loss h e =
-        let new : repeats s.last (count_of (after j)) ≡ false = ap (λ (x : Last). repeats x (count_of (after j))) last ∙ ap (λ (k : ℕ). eqb k n) counted ∙ ne_eqb c n h in
+        let new : repeats s.last (count_of (after j)) ≡ false = ap (λ (x : Option ℕ). repeats x (count_of (after j))) last ∙ ap (λ (k : ℕ). eqb k n) counted ∙ ne_eqb c n h in
         rw (gather-taken s (after j) g o (accepted s (after j) (length g) (length o) fit long room space passes new))
         (record { refusal = unfold taken_of in refl; loss-is = (unfold taken_of in rules-marks loss (brought_by (after j)) (entered_of s (after j) g) e) })
 
     turned : out_of_turn s.last (brought_by (after j)).count ≡ not (eqb c ((n + 1) % 16))
     unfolding brought_by
-    turned = ap (λ (x : Last). out_of_turn x (count_of (after j))) last ∙ ap (λ (k : ℕ). not (eqb k ((n + 1) % 16))) counted
+    turned = ap (λ (x : Option ℕ). out_of_turn x (count_of (after j))) last ∙ ap (λ (k : ℕ). not (eqb k ((n + 1) % 16))) counted
 
   -- up to 14: the loss is marked
   pub few-lost : (j : ℕ) → 0 < j → j ≤ 14 → Takes true (gather_of s (after j) g o)
@@ -109,7 +108,7 @@ module _ (s : Reader) (n : ℕ) (l : Load) (g o : List ℕ) (fit : unfit s ≡ f
   pub fifteen-lost : gather_of s (after 15) g o ≡ refused_of s g o 12
   fifteen-lost =
       let same : (n + 1 + 15) % 16 ≡ n = omega (arith, small_count) in
-      let again : repeats s.last (count_of (after 15)) ≡ true = ap (λ (x : Last). repeats x (count_of (after 15))) last ∙ ap (λ (k : ℕ). eqb k n) (counted 15) ∙ eq-eqb ((n + 1 + 15) % 16) n same in
+      let again : repeats s.last (count_of (after 15)) ≡ true = ap (λ (x : Option ℕ). repeats x (count_of (after 15))) last ∙ ap (λ (k : ℕ). eqb k n) (counted 15) ∙ eq-eqb ((n + 1 + 15) % 16) n same in
       sym (gather-refused s (after 15) g o 12 (carriage-taken s (after 15) (length g) (length o) fit (long 15) room space true (sym (passes 15)) again) (λ e. omega arith))
 
   -- 16: unseen. What waits is joined with what comes, and only the CRC can tell

@@ -44,7 +44,7 @@ use Rattle.gather.specs.State.{start_of, gather_checks}
 use Rattle.gather.specs.Rules.{none, brought_by, Hand}
 use Rattle.gather.specs.Gather.{Outcome, in_hand, joiners, entered_of, result_of, taken_of, gather_of}
 use Rattle.gather.specs.declared.Reader.{Reader}
-use Rattle.gather.specs.declared.Started.{Started}
+use Rattle.gather.specs.State.{Started}
 use Rattle.gather.proofs.RefusalLaws.{Passed, passed}
 use Rattle.gather.proofs.StateLaws.{start-taken, fresh-fit, rule-cases, entered-bytes, gather-fit, result-few}
 use Rattle.gather.proofs.HandedLaws.{both_bytes, packets-few}

@@ -39,7 +39,7 @@ use Rattle.gather.specs.Rules.{brought_by, rule_one, joining, up_to_start, from_
 use Rattle.gather.specs.Gather.{joiners, taken_of, gather_of}
 use Rattle.gather.specs.Calls.{Call, calls_by, lent, handed_all}
 use Rattle.gather.specs.declared.Reader.{Reader}
-use Rattle.gather.specs.declared.Started.{Started}
+use Rattle.gather.specs.State.{Started}
 use Rattle.demands.specs.Library.{Library, Alike, ours}
 use Rattle.demands.specs.Demand1.{Demand1}
 use Rattle.demands.specs.Demand2.{Demand2}

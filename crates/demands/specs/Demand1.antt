@@ -11,7 +11,7 @@ use Rattle.refusals.specs.Answers.{Wrote}
 use Rattle.packet.specs.Read as packet
 use Rattle.packet.specs.Write as packet_writing
 use Rattle.packet.specs.declared.Header.{Header}
-use Rattle.packet.specs.declared.Packet.{Packet}
+use Rattle.packet.specs.Read.{Packet}
 use Rattle.stamp.specs.Read as stamp
 use Rattle.stamp.specs.Write as stamp_writing
 use Rattle.stamp.specs.declared.Stamp.{Stamp}
@@ -36,9 +36,9 @@ use Rattle.carry.specs.Carry as carrying
 use Rattle.gather.specs.State.{unfit, gather_checks}
 use Rattle.gather.specs.Marks.{no_marks}
 use Rattle.gather.specs.Gather as gathering
-use Rattle.gather.specs.declared.Last.TheVariants.{Count}
+use Rattle.std.specs.Prelude.{Some}
 use Rattle.gather.specs.declared.Reader.{Reader}
-use Rattle.gather.specs.declared.Started.{Started}
+use Rattle.gather.specs.State.{Started}
 use Rattle.demands.specs.Library.{Library}
 
 -- ---- what is asked of every operation
@@ -103,7 +103,7 @@ abbrev pub no_time : ℕ → Time
 no_time n = record { refusal = n; steps = record { 0 = 0 } }
 
 abbrev pub no_reader : ℕ → Started
-no_reader n = record { refusal = n; reader = record { pid = 0; last = Count 0; in_step = false; waiting = 0 } }
+no_reader n = record { refusal = n; reader = record { pid = 0; last = Some 0; in_step = false; waiting = 0 } }
 
 -- ---- carriage
 

@@ -7,7 +7,7 @@ use Rattle.packet.specs.Layout.{count_after}
 use Rattle.packet.specs.Read as packet
 use Rattle.packet.specs.Write as packet_writing
 use Rattle.packet.specs.declared.Header.{Header}
-use Rattle.packet.specs.declared.Packet.{Packet}
+use Rattle.packet.specs.Read.{Packet}
 use Rattle.stamp.specs.Layout as stamp
 use Rattle.stamp.specs.Read as stamp_reading
 use Rattle.stamp.specs.Write as stamp_writing
@@ -32,7 +32,7 @@ use Rattle.carry.specs.Carry as carrying
 use Rattle.gather.specs.State.{start_of}
 use Rattle.gather.specs.Gather as gathering
 use Rattle.gather.specs.declared.Reader.{Reader}
-use Rattle.gather.specs.declared.Started.{Started}
+use Rattle.gather.specs.State.{Started}
 
 -- an operation that writes takes the lent output as it was, and gives it as it then is
 pub record Library : Type 0 where

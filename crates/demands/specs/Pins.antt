@@ -10,7 +10,7 @@ use Rattle.functions.specs.declared.Function.{Function}
 use Rattle.functions.specs.declared.Function.TheVariants.{TimeOffset, FrequencyOffset, Power, Private, Cell, Enable, Bandwidth, Passed}
 use Rattle.mip.specs.declared.Mip.{Mip}
 use Rattle.transport.specs.Look.{look_of}
-use Rattle.transport.specs.declared.Looked.{Looked}
+use Rattle.transport.specs.Look.{Looked}
 use Rattle.gather.specs.Calls.{calls_by, lent, handed_all}
 use Rattle.demands.specs.Library.{Library}
 use Rattle.demands.specs.Demand2.Address.{whole_walk, told_by}

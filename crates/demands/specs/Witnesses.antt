@@ -23,8 +23,7 @@ use Rattle.mip.specs.declared.Mip.{Mip}
 use Rattle.transport.specs.Tests.{pid_outside}
 use Rattle.carry.specs.Carry as carrying
 use Rattle.gather.specs.State.{gather_checks}
-use Rattle.gather.specs.declared.Last.{Last}
-use Rattle.gather.specs.declared.Last.TheVariants.{Nothing, Count}
+use Rattle.std.specs.Prelude.{Option, None, Some}
 use Rattle.gather.specs.declared.Reader.{Reader}
 use Rattle.demands.specs.Library.{Library}
 use Rattle.demands.specs.Route.{Item, writers, again, other, nothing, Route}
@@ -363,11 +362,11 @@ carryings =
 abbrev pub starts : List (ℕ × ℕ)
 starts = (4, 0x001F) ∷ (4, 0x1FFF) ∷ []
 
-abbrev reader : ℕ → Last → Bool → ℕ → Reader
+abbrev reader : ℕ → Option ℕ → Bool → ℕ → Reader
 reader pid last step waiting = record { pid = pid; last = last; in_step = step; waiting = waiting }
 
 abbrev fresh : Reader
-fresh = reader 0x1000 Nothing false 0
+fresh = reader 0x1000 None false 0
 
 abbrev good : List ℕ
 good = headed 0x47 0x10 0x00 0x15
@@ -375,11 +374,11 @@ good = headed 0x47 0x10 0x00 0x15
 -- state, transport packet, the gathering buffer's bytes and the output's
 abbrev pub gatherings : List (ℕ × Reader × List ℕ × ℕ × ℕ)
 gatherings =
-    (38, reader 0x001F Nothing false 0, good, 8202, 8385)
-    ∷ (38, reader 0x1FFF Nothing false 0, good, 8202, 8385)
-    ∷ (38, reader 0x1000 (Count 16) false 0, good, 8202, 8385)
-    ∷ (38, reader 0x1000 Nothing true 8202, good, 8202, 8385)
-    ∷ (38, reader 0x1000 Nothing false 1, good, 8202, 8385)
+    (38, reader 0x001F None false 0, good, 8202, 8385)
+    ∷ (38, reader 0x1FFF None false 0, good, 8202, 8385)
+    ∷ (38, reader 0x1000 (Some 16) false 0, good, 8202, 8385)
+    ∷ (38, reader 0x1000 None true 8202, good, 8202, 8385)
+    ∷ (38, reader 0x1000 None false 1, good, 8202, 8385)
     ∷ (1, fresh, replicate 187 0x47, 8202, 8385)
     ∷ (1, fresh, replicate 189 0x47, 8202, 8385)
     ∷ (2, fresh, good, 8201, 8385)
@@ -394,12 +393,12 @@ gatherings =
     -- a field of 183 bytes; and the pointer 183
     ∷ (10, fresh, 0x47 ∷ 0x10 ∷ 0x00 ∷ 0x35 ∷ 183 ∷ replicate 183 0, 8202, 8385)
     ∷ (11, fresh, 0x47 ∷ 0x50 ∷ 0x00 ∷ 0x15 ∷ 183 ∷ replicate 183 0, 8202, 8385)
-    ∷ (12, reader 0x1000 (Count 5) true 8201, good, 8202, 8385)
+    ∷ (12, reader 0x1000 (Some 5) true 8201, good, 8202, 8385)
     -- and of none: the fresh reader, the highest pointer, the largest field
     ∷ (0, fresh, good, 8202, 8385)
     ∷ (0, fresh, 0x47 ∷ 0x50 ∷ 0x00 ∷ 0x15 ∷ 182 ∷ replicate 183 0, 8202, 8385)
     ∷ (0, fresh, 0x47 ∷ 0x10 ∷ 0x00 ∷ 0x35 ∷ 182 ∷ replicate 183 0, 8202, 8385)
-    ∷ (0, reader 0x1FFE (Count 15) true 8201, headed 0x47 0x1F 0xFE 0x10, 8202, 8385)
+    ∷ (0, reader 0x1FFE (Some 15) true 8201, headed 0x47 0x1F 0xFE 0x10, 8202, 8385)
     ∷ []
 
 -- ---- all of them, by the lists that demand 1 asks for

@@ -21,7 +21,7 @@ use Rattle.functions.specs.declared.Function.{Function}
 use Rattle.functions.specs.declared.Function.TheVariants.{TimeOffset, FrequencyOffset, Power, Private, Cell, Enable, Bandwidth, Passed}
 use Rattle.demands.specs.Demand1.{wrote_nothing, Writes}
 use Rattle.demands.proofs.MeetsOne.{meets-one}
-use Rattle.sfn.specs.Making.{offset_made, power_made, waiting_made, made_of, function_written}
+use Rattle.sfn.specs.Making.{made_of, function_written}
 use Rattle.door.specs.Demand1.{function_checks}
 use Rattle.door.proofs.Flat.{same_writes, refuses}
 
@@ -61,7 +61,7 @@ module _ (tag : ℕ) (wait rest : ℕ) (carried out : List ℕ) where
   -- ---- kinds with fields
 
   time : (value : ℤ) → Right 0 value
-  unfolding function_checks made_of offset_made write_checks unfit reserved body_of body_long bytes unpack
+  unfolding function_checks made_of write_checks unfit reserved body_of body_long bytes unpack
   time value =
       cases (eqb tag 0)
       (λ t. cases (ltb 0 (length carried))
@@ -81,7 +81,7 @@ module _ (tag : ℕ) (wait rest : ℕ) (carried out : List ℕ) where
       (λ t. rw t (nothing _ refl))
 
   power : (value : ℤ) → Right 2 value
-  unfolding function_checks made_of power_made too_wide write_checks unfit reserved body_of body_long bytes unpack
+  unfolding function_checks made_of too_wide write_checks unfit reserved body_of body_long bytes unpack
   power (pos v) =
       cases (eqb tag 2)
       (λ t. cases (ltb 0 (length carried))
@@ -96,7 +96,7 @@ module _ (tag : ℕ) (wait rest : ℕ) (carried out : List ℕ) where
       (λ t. rw t (nothing _ refl))
 
   cell : (value : ℤ) → Right 4 value
-  unfolding function_checks made_of waiting_made too_wide write_checks unfit reserved body_of body_long bytes unpack
+  unfolding function_checks made_of too_wide write_checks unfit reserved body_of body_long bytes unpack
   cell (pos v) =
       cases (eqb tag 4)
       (λ t. cases (ltb 0 (length carried))
@@ -119,7 +119,7 @@ module _ (tag : ℕ) (wait rest : ℕ) (carried out : List ℕ) where
       (λ t. rw t (nothing _ refl))
 
   bandwidth : (value : ℤ) → Right 6 value
-  unfolding function_checks made_of waiting_made too_wide write_checks unfit reserved body_of body_long bytes unpack
+  unfolding function_checks made_of too_wide write_checks unfit reserved body_of body_long bytes unpack
   bandwidth (pos v) =
       cases (eqb tag 6)
       (λ t. cases (ltb 0 (length carried))
@@ -142,7 +142,7 @@ module _ (tag : ℕ) (wait rest : ℕ) (carried out : List ℕ) where
   -- ---- no such kind
 
   over : (kind : ℕ) (value : ℤ) → 7 < kind → Right kind value
-  unfolding function_checks made_of waiting_made
+  unfolding function_checks made_of
   over kind value h =
       let no : (k : ℕ) → k ≤ 7 → eqb kind k ≡ false = λ k l. ne_eqb kind k (λ e. absurd (omega arith)) in
       rw (lt-ltb 7 kind h, no 7 (omega arith), no 3 (omega arith), no 5 (omega arith), no 0 (omega arith), no 1 (omega arith), no 2 (omega arith), no 4 (omega arith), no 6 (omega arith))

@@ -14,7 +14,7 @@ use Rattle.fields.proofs.Cases.{cases, true≢false}
 use Rattle.refusals.specs.Checks.{Check, ◌when◌, first}
 use Rattle.refusals.specs.Answers.{answer, written}
 use Rattle.refusals.proofs.AnswerLaws.{written-refused}
-use Rattle.packet.specs.declared.Packet.{Packet}
+use Rattle.packet.specs.Read.{Packet}
 use Rattle.stamp.specs.Read.{StampRead}
 use Rattle.functions.specs.declared.Function.{Function}
 use Rattle.functions.specs.declared.Function.TheVariants.{TimeOffset, FrequencyOffset, Power, Private, Cell, Enable, Bandwidth, Passed}
@@ -28,7 +28,7 @@ use Rattle.mip.specs.Read.{MipRead}
 use Rattle.transport.specs.Tests.{pid_outside}
 use Rattle.gather.specs.State.{start_of}
 use Rattle.gather.specs.Gather as gathering
-use Rattle.gather.specs.declared.Started.{Started}
+use Rattle.gather.specs.State.{Started}
 use Rattle.gather.proofs.StateLaws.{start-taken, fresh-fit}
 use Rattle.demands.specs.Demand1 as below
 use Rattle.demands.specs.Demand1.{Kept, Writes}

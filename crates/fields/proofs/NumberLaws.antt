@@ -10,7 +10,7 @@ use lib.ListN.{length, get_or, take, drop, replicate, length-replicate, length-a
 use lib.Bits.{bit_or, or_shifted}
 use lib.Pow.{pow-add, pow_mono}
 use lib.Seq.{get_or-drop, take_all}
-use Rattle.std.specs.Int.{w64, to_be_bytes}
+use Rattle.std.specs.Int.{w32, w64, to_be_bytes}
 use Rattle.std.specs.List.{fold}
 use Rattle.fields.proofs.FormatLaws.{pack-lt, pack-unpack-mod, unpack-pack, length-unpack, unpack-fit}
 use Rattle.fields.specs.Formats.{span, pack, unpack, Fit}
@@ -146,7 +146,8 @@ taken-in l b s h k =
     ap (λ (v : ℕ). bit_or v b) (mod-eq_of_lt (omega arith)) ∙ or_shifted (number l) 8 b h ∙ sym (number-snoc l b)
 
 -- up to eight bytes, the first ones before the others
-pub fold_number : (l m : List ℕ) → Bytes l → Bytes m → length l + length m ≤ 8 → fold taken_in (number l) m ≡ number (l ++ m)
+fold_number : (l m : List ℕ) → Bytes l → Bytes m → length l + length m ≤ 8
+    → fold taken_in (number l) m ≡ number (l ++ m)
 fold_number l [] s t h = ap number (sym (append-nil l))
 fold_number l (b ∷ m) s t h =
     let e : length (l ++ (b ∷ [])) ≡ length l + 1 = length-append l (b ∷ []) in
@@ -159,22 +160,30 @@ fold_number l (b ∷ m) s t h =
     one b h (suc i) = lit< tt
 
 pub number_of_fold : (l : List ℕ) → Bytes l → length l ≤ 8 → fold taken_in 0 l ≡ number l
-number_of_fold l s h = ap (λ (v : ℕ). fold taken_in v l) (sym number-nil) ∙ fold_number [] l (λ i. lit< tt) s (omega arith)
+number_of_fold l s h =
+    ap (λ (v : ℕ). fold taken_in v l) (sym number-nil) ∙ fold_number [] l (λ i. lit< tt) s (omega arith)
 
 drop-bytes : (j k n : ℕ) → drop j (bytes (j + k) n) ≡ bytes k n
 drop-bytes zero k n = ap (λ (m : ℕ). bytes m n) (zero-add k)
-drop-bytes (suc j) k n = ap (λ (m : ℕ). drop (suc j) (bytes m n)) (suc-add j k) ∙ ap (drop (suc j)) (bytes-cons (j + k) n) ∙ drop-bytes j k n
+drop-bytes (suc j) k n =
+    ap (λ (m : ℕ). drop (suc j) (bytes m n)) (suc-add j k)
+    ∙ ap (drop (suc j)) (bytes-cons (j + k) n)
+    ∙ drop-bytes j k n
 
--- all eight bytes of an integer
-be-bytes : (n : ℕ) → to_be_bytes w64 n ≡ bytes 8 n
+-- all bytes of an integer of four, and of one of eight
+pub four_be_bytes : (n : ℕ) → to_be_bytes w32 n ≡ bytes 4 n
 unfolding bytes unpack
-be-bytes n = simp div-one
+four_be_bytes n = simp div-one
 
--- and the last k of them
+eight_be_bytes : (n : ℕ) → to_be_bytes w64 n ≡ bytes 8 n
+unfolding bytes unpack
+eight_be_bytes n = simp div-one
+
+-- the last k of eight
 pub last_bytes : (k n : ℕ) (l : List ℕ) → l ≡ to_be_bytes w64 n → k ≤ 8 → take (8 - (8 - k)) (drop (8 - k) l) ≡ bytes k n
 last_bytes k n l i h =
     let e : 8 ≡ 8 - k + k = omega arith in
-    let whole : l ≡ bytes (8 - k + k) n = i ∙ be-bytes n ∙ ap (λ (m : ℕ). bytes m n) e in
+    let whole : l ≡ bytes (8 - k + k) n = i ∙ eight_be_bytes n ∙ ap (λ (m : ℕ). bytes m n) e in
     ap (λ (m : List ℕ). take (8 - (8 - k)) (drop (8 - k) m)) whole
     ∙ ap (take (8 - (8 - k))) (drop-bytes (8 - k) k n)
     ∙ take_all (8 - (8 - k)) (bytes k n) (omega (arith, length-bytes k n))

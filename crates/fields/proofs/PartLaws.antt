@@ -9,6 +9,7 @@ use native.Mathlib.Omega.{arith}
 use lib.ListN.{length, get_or, set, replicate, take, drop, length-append, length-drop, take-append-drop, drop_of_length-le}
 use lib.Seq.{length-take-le, take_at, drop_at, take-take, take-add, drop-drop, drop-append-add, take-suc, drop-cons, get_or-take, get_or-drop, set_at, take-length}
 use borrow.Author.Tests.{le-leb}
+use borrow.Rule.Slice.PartMut.{put_mid}
 use Rattle.std.proofs.lemmas.List.{drop-take}
 use Rattle.fields.proofs.NumberLaws.{bytes_take, bytes_drop, number_append, number_lt}
 use Rattle.fields.proofs.FormatLaws.{unpack-halves}
@@ -90,6 +91,13 @@ in_halves vs ws j k s b e w =
 pub overlay-is : (at : ℕ) (p l : List ℕ) → overlay at p l ≡ take at l ++ (p ++ drop (at + length p) l)
 unfolding overlay
 overlay-is at p l = refl
+
+-- what a write to the n elements of a slice from `at` on leaves
+pub written-part : (at n : ℕ) (p l : List ℕ) → length p ≡ n → put_mid at (at + n - at) l p ≡ overlay at p l
+unfolding overlay
+written-part at n p l e =
+    let k : at + n - at ≡ length p = omega arith in
+    ap (λ (r : List ℕ). take at l ++ (p ++ r)) (ap (λ (i : ℕ). drop i (drop at l)) k ∙ drop-drop (length p) at l)
 
 -- what stands before the end of p
 length-head : (at : ℕ) (p l : List ℕ) → at ≤ length l → length (take at l ++ p) ≡ at + length p

@@ -28,19 +28,19 @@ pub enum Function {
 }
 
 // The tags of the table; every other tag is passed through.
-const TIME_OFFSET: u8 = 0;
+pub const TIME_OFFSET: u8 = 0;
 
-const FREQUENCY_OFFSET: u8 = 1;
+pub const FREQUENCY_OFFSET: u8 = 1;
 
-const POWER: u8 = 2;
+pub const POWER: u8 = 2;
 
-const PRIVATE: u8 = 3;
+pub const PRIVATE: u8 = 3;
 
-const CELL: u8 = 4;
+pub const CELL: u8 = 4;
 
-const ENABLE: u8 = 5;
+pub const ENABLE: u8 = 5;
 
-const BANDWIDTH: u8 = 6;
+pub const BANDWIDTH: u8 = 6;
 
 // Whether a body of n bytes is too long for function_length, which counts the tag and length bytes too.
 #[tactic(auto, unfolding(crate::specs::Tags::body_long))]
@@ -72,7 +72,7 @@ fn value_reserved(v: u8) -> bool
 }
 
 // Whether a bandwidth function's value is reserved. It stands in the top seven bits of the body's first byte.
-#[tactic(auto, unfolding(crate::specs::Tags::bandwidth_reserved, crate::specs::Tags::value_reserved, fields::specs::Formats::unpack))]
+#[tactic(auto, unfolding(crate::specs::Tags::bandwidth_reserved, fields::specs::Formats::unpack))]
 pub fn bandwidth_reserved(tag: u8, first: u8) -> bool
     ensures { result ≡ bandwidth_reserved tag first }
 {
@@ -228,6 +228,7 @@ fn bandwidth_number(value: u8, wait: bool) -> u64
 }
 
 // Lays a function's body over the front of out.
+#[tactic(auto, using(crate::proofs::BodyLaws::layings), unfolding(crate::specs::Function::body_of))]
 fn put_body(f: Function, bytes: &[u8], out: &mut [u8])
     requires { Writable f bytes.now out.old }
     ensures { out.new ≡ overlay 0 (body_of f bytes.now) out.old }

@@ -18,7 +18,7 @@ use Rattle.gather.specs.Gather.{Outcome, refused_of, result_of, taken_of, gather
 use Rattle.gather.specs.Calls.{Call, Gathering, calls_by, calls_of, after_by, transports_of, lent, Spacious, wrote_by, handed_by, handed_all, marks_all}
 use Rattle.gather.specs.declared.Marks.{Marks}
 use Rattle.gather.specs.declared.Reader.{Reader}
-use Rattle.gather.specs.declared.Gathered.{Gathered}
+use Rattle.gather.specs.Gather.{Gathered}
 use Rattle.gather.proofs.GatherLaws.{gather-refused, gather-taken}
 use Rattle.gather.proofs.HandedLaws.{taken-bytes, taken-cut}
 use Rattle.gather.proofs.ReadingLaws.{taken-answer}

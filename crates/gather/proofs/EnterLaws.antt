@@ -1,42 +1,39 @@
 -- The laws of rule 1: how it goes, and that what waits after it is unfinished and lies in the gathering buffer.
 -- Assumes nothing.
-use mathlib.Core.Path.{◌≡◌, refl, sym}
+use mathlib.Core.Path.{◌≡◌, refl}
 use mathlib.Core.Bool.{true, false}
 use mathlib.Core.List.{List, []}
 use Prim.Native.Nat.{ℕ, ◌≤◌, ◌<◌}
 use native.Mathlib.Omega.{arith}
-use lib.Dec.{leb}
 use lib.ListN.{length, take}
 use lib.Seq.{length-take-le}
 use borrow.Author.Tests.{lt-leb, leb-false}
 use Rattle.fields.proofs.Cases.{cases}
 use Rattle.packet.specs.Layout.{size_of}
 use Rattle.packet.specs.Cut.{joined}
-use Rattle.packet.proofs.LayoutLaws.{size-least, size-take}
+use Rattle.packet.proofs.LayoutLaws.{size-least}
 use Rattle.gather.specs.Marks.{no_marks, mark_loss, mark_misfit}
 use Rattle.gather.specs.Rules.{Hand, dropped, lost, misfits, out_of_turn, reaches, rule_one}
 use Rattle.gather.specs.Gather.{in_hand}
 use Rattle.gather.specs.Phases.{numbers, hand_of, Entered}
 use Rattle.gather.specs.declared.Marks.{Marks}
-use Rattle.gather.specs.declared.Last.{Last}
+use Rattle.std.specs.Prelude.{Option}
 use Rattle.gather.specs.declared.Reader.{Reader}
 use Rattle.gather.specs.declared.Numbers.{Numbers}
+
+-- ---- as a call begins
+
+pub unmarked : (m : Marks) → (m.loss ≡ false) × ((m.misfit ≡ false) × (m.crc ≡ false)) → m ≡ no_marks
+unmarked m h = λ i. record { loss = h.0 i; misfit = h.1.0 i; crc = h.1.1 i }
 
 -- ---- bytes that reach their own length
 
 pub nothing-reaches : reaches [] ≡ false
 nothing-reaches = lt-leb (size_of []) 0 (omega (arith, size-least []))
 
-module _ (g : List ℕ) (w : ℕ) (h : w ≤ length g) where
-  pub reaches-not : w < 6 → false ≡ reaches (take w g)
-  reaches-not k = rw (length-take-le w g h) (sym (lt-leb (size_of (take w g)) w (omega (arith, size-least (take w g)))))
-
-  pub reaches-by : (size : ℕ) → 6 ≤ w → size ≡ size_of g → leb size w ≡ reaches (take w g)
-  reaches-by size k e = rw (length-take-le w g h, size-take w g k, ← e)
-
 -- ---- the rule, case by case
 
-module _ (last : Last) (count : ℕ) (h : Hand) where
+module _ (last : Option ℕ) (count : ℕ) (h : Hand) where
   pub rule-lost : out_of_turn last count ≡ true → rule_one last count h ≡ lost h
   unfolding rule_one
   rule-lost b = rw (b, nothing-reaches)

@@ -5,22 +5,27 @@ use mathlib.Core.Bool.{true, false}
 use mathlib.Core.List.{List, [], ◌∷◌, ◌++◌}
 use Prim.Native.Nat.{ℕ, ◌+◌, ◌-◌, ◌≤◌}
 use native.Mathlib.Omega.{arith}
-use lib.ListN.{length, take, drop, length-append, length-drop}
-use lib.Seq.{take_all, drop-drop}
-use Rattle.fields.specs.Parts.{part, overlay}
+use lib.ListN.{length, take, drop, length-append}
+use lib.Seq.{take_all}
+use Rattle.std.specs.Prelude.{Result, IsErrAnd}
+use Rattle.std.proofs.lemmas.Result.{err_from_is_err_and}
+use Rattle.fields.specs.Parts.{overlay}
 use Rattle.fields.proofs.Cases.{cases}
 use Rattle.fields.proofs.PartLaws.{overlay-none, overlay-same, take-overlay}
 use Rattle.refusals.specs.Checks.{first}
+use Rattle.refusals.specs.Refusals.{number_of}
+use Rattle.refusals.specs.declared.Refusal.{Refusal}
+use Rattle.refusals.proofs.NumberLaws.{number-not-0}
 use Rattle.refusals.proofs.AnswerLaws.{answer-accepted, answer-number}
 use Rattle.packet.specs.Layout.{size_of}
 use Rattle.transport.specs.Header.{count_of, starts, payload_at, pointer_of, carried_at, carried_by}
 use Rattle.gather.specs.State.{gather_checks}
 use Rattle.gather.specs.Rules.{none, brought_by, Hand, hands_out, strays, rule_one, up_to_start, rules_on}
-use Rattle.gather.specs.Gather.{in_hand, joiners, refused_of, taken_of, gather_of}
+use Rattle.gather.specs.Gather.{Gathered, gathered_told, in_hand, joiners, refused_of, taken_of, gather_of}
+use Rattle.gather.specs.declared.Gathered as given
 use Rattle.gather.specs.Phases.{answer_by, AfterStage, led_of, with_start_of}
 use Rattle.gather.specs.declared.Reader.{Reader}
 use Rattle.gather.specs.declared.Numbers.{Numbers}
-use Rattle.gather.specs.declared.Gathered.{Gathered}
 use Rattle.gather.proofs.EnterLaws.{Stands}
 use Rattle.gather.proofs.JoinLaws.{passes-joiners, some-join, joint, stage_cases}
 
@@ -31,6 +36,10 @@ module _ (s : Reader) (t g o : List ℕ) where
   unfolding gather_of
   gather-refused n e h = answer-number (gather_checks s t (length g) (length o)) (refused_of s g o) (taken_of s t g o) n e h
 
+  pub gather-exit : (r : Result given.Gathered Refusal) (e : Refusal) → IsErrAnd r (λ y. y ≡ e) → number_of e ≡ first (gather_checks s t (length g) (length o))
+      → record { answer = gathered_told s r; gathering = g; output = o } ≡ gather_of s t g o
+  gather-exit r e p h = let q = err_from_is_err_and r p in rw (q.1, q.2) (gather-refused (number_of e) h (number-not-0 e))
+
   pub gather-taken : first (gather_checks s t (length g) (length o)) ≡ 0 → gather_of s t g o ≡ taken_of s t g o
   unfolding gather_of
   gather-taken e = answer-accepted (gather_checks s t (length g) (length o)) (refused_of s g o) (taken_of s t g o) e
@@ -38,15 +47,14 @@ module _ (s : Reader) (t g o : List ℕ) where
 -- ---- what a transport packet brings
 
 pub brings-start : (t : List ℕ) → starts t ≡ true
-    → brought_by t ≡ record { count = count_of t; begins = true; before = part (payload_at t + 1) (pointer_of t) t; onward = drop (payload_at t + 1 + pointer_of t) t }
-unfolding brought_by carried_by carried_at part
-brings-start t b = rw (b, drop-drop (pointer_of t) (payload_at t + 1) t)
+    → brought_by t ≡ record { count = count_of t; begins = true; before = take (pointer_of t) (drop (payload_at t + 1) t); onward = drop (pointer_of t) (drop (payload_at t + 1) t) }
+unfolding brought_by carried_by carried_at
+brings-start t b = rw b
 
-pub brings-plain : (t : List ℕ) → starts t ≡ false → length t ≡ 188
-    → brought_by t ≡ record { count = count_of t; begins = false; before = part (payload_at t) (188 - payload_at t) t; onward = [] }
-unfolding brought_by carried_by carried_at part
-brings-plain t b w =
-    rw (b, take_all (188 - payload_at t) (drop (payload_at t) t) (simp length-drop (omega arith)))
+pub brings-plain : (t : List ℕ) → starts t ≡ false
+    → brought_by t ≡ record { count = count_of t; begins = false; before = drop (payload_at t) t; onward = [] }
+unfolding brought_by carried_by carried_at
+brings-plain t b = rw b
 
 -- ---- where the waiting bytes lie
 
@@ -86,19 +94,19 @@ module _ (s : Reader) (t g o : List ℕ) where
   e = rule_one s.last (count_of t) (in_hand s g)
 
   module _ (entered : Numbers) (stands : Stands entered g e) (r : Numbers) (g' o' : List ℕ) (a : Gathered) (n m : ℕ) (at-is : n ≡ payload_at t) (count-is : m ≡ count_of t) (q : a ≡ answer_by s.pid m r) where
-    pub taken_start : starts t ≡ true → (p : ℕ) → p ≡ pointer_of t
-        → record { held = r; gathering = g'; output = o' } ≡ with_start_of entered (part (n + 1) p t) (drop (n + 1 + p) t) g o
+    pub taken_start : starts t ≡ true → (p : ℕ) → p ≡ pointer_of t → (before onward : List ℕ) → before ≡ take p (drop (n + 1) t) → onward ≡ drop p (drop (n + 1) t)
+        → record { held = r; gathering = g'; output = o' } ≡ with_start_of entered before onward g o
         → record { answer = a; gathering = g'; output = o' } ≡ taken_of s t g o
     unfolding taken_of rules_on with_start_of
-    taken_start b p pointer_is f =
-        let k = rw (stands.is, ← stands.long, at-is, pointer_is) at f in
+    taken_start b p pointer_is before onward before-is onward-is f =
+        let k = rw (before-is, onward-is, stands.is, ← stands.long, at-is, pointer_is) at f in
         rw (brings-start t b, q, count-is, ap (λ (x : AfterStage). x.held) k, ap (λ (x : AfterStage). x.gathering) k, ap (λ (x : AfterStage). x.output) k)
 
-    pub taken-plain : starts t ≡ false → length t ≡ 188 → entered.waiting ≤ length g
-        → record { held = r; gathering = g'; output = o' } ≡ led_of entered (part n (188 - n) t) g o
+    pub taken-plain : starts t ≡ false → entered.waiting ≤ length g → (payload : List ℕ) → payload ≡ drop n t
+        → record { held = r; gathering = g'; output = o' } ≡ led_of entered payload g o
         → record { answer = a; gathering = g'; output = o' } ≡ taken_of s t g o
     unfolding taken_of rules_on led_of
-    taken-plain b w i f =
-        let k = rw (stands.is, ← stands.long, at-is) at f in
+    taken-plain b i payload payload-is f =
+        let k = rw (payload-is, stands.is, ← stands.long, at-is) at f in
         let lies : take (length e.waiting) g ≡ e.waiting = rw stands.long (ap (λ (x : Hand). x.waiting) stands.is) in
-        rw (brings-plain t b w, q, count-is, ap (λ (x : AfterStage). x.held) k, ap (λ (x : AfterStage). x.gathering) k, ap (λ (x : AfterStage). x.output) k, stage-stays (part (payload_at t) (188 - payload_at t) t) g e (rw stands.long i) lies)
+        rw (brings-plain t b, q, count-is, ap (λ (x : AfterStage). x.held) k, ap (λ (x : AfterStage). x.gathering) k, ap (λ (x : AfterStage). x.output) k, stage-stays (drop (payload_at t) t) g e (rw stands.long i) lies)

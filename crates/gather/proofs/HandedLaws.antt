@@ -5,7 +5,7 @@ use mathlib.Core.Path.{◌≡◌, refl, sym, ap, ◌∙◌}
 use mathlib.Core.List.{List, [], ◌∷◌, ◌++◌, append-nil}
 use Prim.Native.Nat.{ℕ, ◌+◌, ◌*◌, ◌≤◌}
 use native.Mathlib.Omega.{arith}
-use lib.ListN.{length, take, length-append, length-drop}
+use lib.ListN.{length, take, drop, length-append, length-drop}
 use Rattle.fields.specs.Numbers.{Bytes}
 use Rattle.fields.proofs.Cases.{cases}
 use Rattle.fields.proofs.NumberLaws.{bytes-append}
@@ -105,8 +105,8 @@ module _ (s : Reader) (t g : List ℕ) (bt : Bytes t) (bg : Bytes g) where
   onward-few : length t ≡ 188 → length (brought_by t).onward ≤ 183
   onward-few whole =
       cases (starts t)
-      (λ b. rw (brings-start t b, length-drop (payload_at t + 1 + pointer_of t) t) (omega (arith, payload-from t)))
-      (λ b. rw (brings-plain t b whole) (omega arith))
+      (λ b. rw (brings-start t b, length-drop (pointer_of t) (drop (payload_at t + 1) t), length-drop (payload_at t + 1) t) (omega (arith, payload-from t)))
+      (λ b. rw (brings-plain t b) (omega arith))
 
   -- 8,202 bytes that were begun before, and 183 from the start on
   pub packets-few : length t ≡ 188 → length (joined (result_of s t g).packets) ≤ 8385

@@ -7,39 +7,26 @@ use Prim.Native.Nat.{ℕ, ◌+◌, ◌-◌, ◌≤◌, ◌<◌}
 use native.Mathlib.Nat.{zero-add, suc-ne-zero}
 use native.Mathlib.Omega.{arith}
 use lib.Dec.{leb}
-use lib.ListN.{length, get_or, take, drop, length-append, length-drop, get_or-append, get_or-eq_default}
-use lib.Seq.{length-take-le, get_or-take, get_or-append-add, take_all, take-append-add}
+use lib.ListN.{length, take, drop, length-append, length-drop}
+use lib.Seq.{length-take-le, drop-drop, take_all, take-append-add}
 use borrow.Author.Tests.{eq-eqb, ne_eqb, eqb-true, leb-true, leb-false}
 use Rattle.crc.specs.Crc.{crc_holds}
 use Rattle.fields.specs.Numbers.{Bytes}
-use Rattle.fields.specs.Parts.{part, overlay, copied_to}
+use borrow.Rule.Slice.PartMut.{put_mid}
+use Rattle.fields.specs.Parts.{overlay}
 use Rattle.fields.proofs.Cases.{cases}
-use Rattle.fields.proofs.PartLaws.{length_part, take_part, overlay-none, take-overlay, copied-to}
+use Rattle.fields.proofs.PartLaws.{overlay-is, overlay-none, take-overlay}
 use Rattle.packet.specs.Layout.{size_of}
 use Rattle.packet.specs.Cut.{joined}
 use Rattle.packet.proofs.LayoutLaws.{size-least, size-most, size-append}
 use Rattle.packet.proofs.CutLaws.{judged-short, judged-bad, judged-good, joined-one}
 use Rattle.gather.specs.Rules.{none, Hand, crc_fails, waits, hands_out, strays, joining, up_to_start}
 use Rattle.gather.specs.Gather.{joiners}
-use Rattle.gather.specs.Phases.{misfits_in, crc_fails_in, waits_in, hands_out_in, numbers, hand_of, Entered, AfterStage, led_of}
+use Rattle.gather.specs.Phases.{misfits_in, crc_fails_in, waits_in, hands_out_in, numbers, hand_of, Entered, Ready, AfterStage, led_of}
 use Rattle.gather.specs.Theorems.{Front, nothing, finished-one}
 use Rattle.gather.specs.declared.Numbers.{Numbers}
 
 -- ---- waiting bytes with new ones behind them
-
-module _ (g : List ℕ) (w : ℕ) (d : List ℕ) (h : w ≤ length g) where
-  pub get_or-waiting : (k : ℕ) → k < w → get_or (take w g ++ d) k 0 ≡ get_or g k 0
-  get_or-waiting k i =
-      get_or-append (take w g) d 0 k (rw (length-take-le w g h) i) ∙ get_or-take w g k 0 i
-
-  pub get_or-new : (k : ℕ) → w ≤ k → get_or (take w g ++ d) k 0 ≡ get_or d (k - w) 0
-  get_or-new k i =
-      let e : length (take w g) ≡ w = length-take-le w g h in
-      let f : k ≡ length (take w g) + (k - w) = rw e (omega arith) in
-      ap (λ (j : ℕ). get_or (take w g ++ d) j 0) f ∙ get_or-append-add (take w g) d (k - w) 0
-
-  pub get_d_past : (k : ℕ) → w + length d ≤ k → get_or (take w g ++ d) k 0 ≡ 0
-  get_d_past k i = get_or-eq_default (take w g ++ d) 0 (rw (length-append (take w g) d, length-take-le w g h) i)
 
 pub length-zero : (l : List ℕ) → length l ≡ 0 → l ≡ []
 length-zero [] e = refl
@@ -130,13 +117,16 @@ laid_none : (e : Numbers) (g o : List ℕ) (held : Numbers)
     → ◌≡◌ {A = AfterStage} (record { held = held; gathering = g; output = o }) (record { held = held; gathering = overlay e.waiting [] g; output = overlay 0 [] o })
 laid_none e g o held = rw (overlay-none e.waiting g, overlay-none 0 o)
 
-module _ (e : Numbers) (d g o : List ℕ) (b : e.bytes ≡ 0) (p : e.packets ≡ 0) (i : e.waiting ≤ length g) where
+module _ (e : Numbers) (d g o : List ℕ) (ready : Ready e g o) where
   abbrev h : Hand
   h = hand_of e g
 
+  abbrev left : Entered e g
+  left = ready.entered
+
   mine : e ≡ numbers h
   unfolding joined
-  mine = numbered e (length (take e.waiting g)) 0 0 (sym (length-take-le e.waiting g i)) b p
+  mine = numbered e (length (take e.waiting g)) 0 0 (sym (length-take-le e.waiting g (omega (arith, left.few, ready.roomy)))) left.bytes left.packets
 
   pub led-passed : e.in_step ≡ false → record { held = e; gathering = g; output = o } ≡ led_of e d g o
   unfolding led_of joined
@@ -147,92 +137,105 @@ module _ (e : Numbers) (d g o : List ℕ) (b : e.bytes ≡ 0) (p : e.packets ≡
     empty : take e.waiting g ≡ []
     empty = ap (λ (n : ℕ). take n g) z
 
-    pub led-nothing : length d ≡ 0 → record { held = e; gathering = g; output = o } ≡ led_of e d g o
+    pub led-nothing : none d ≡ true → record { held = e; gathering = g; output = o } ≡ led_of e d g o
     unfolding led_of joined
     led-nothing n =
-        rw (strays-in d h s empty, none-joins d h s empty, eq-eqb (length d) 0 n) (laid_none e g o e ∙ ap (λ (x : Numbers). record { held = x; gathering = overlay e.waiting [] g; output = overlay 0 [] o }) mine)
+        rw (strays-in d h s empty, none-joins d h s empty, n) (laid_none e g o e ∙ ap (λ (x : Numbers). record { held = x; gathering = overlay e.waiting [] g; output = overlay 0 [] o }) mine)
 
-    pub led-strays : (length d ≡ 0 → ⊥) → (r : Numbers) → r ≡ misfits_in e
+    pub led-strays : none d ≡ false → (r : Numbers) → r ≡ misfits_in e
         → record { held = r; gathering = g; output = o } ≡ led_of e d g o
     unfolding led_of joined
     led-strays n r q =
-        rw (strays-in d h s empty, none-joins d h s empty, ne_eqb (length d) 0 n) (laid_none e g o r ∙ ap (λ (x : Numbers). record { held = x; gathering = overlay e.waiting [] g; output = overlay 0 [] o }) (q ∙ rw (b, p)))
+        rw (strays-in d h s empty, none-joins d h s empty, n) (laid_none e g o r ∙ ap (λ (x : Numbers). record { held = x; gathering = overlay e.waiting [] g; output = overlay 0 [] o }) (q ∙ rw (left.bytes, left.packets)))
 
--- n bytes of t at `at` join, and `size` is the packet's own length
-module _ (e : Numbers) (g o t : List ℕ) (at n size : ℕ) (en : Entered e g) (s : e.in_step ≡ true) (some : 0 < e.waiting) (room : 8202 ≤ length g)
-    (in-t : at + n ≤ length t) (own : size ≡ size_of (take e.waiting g ++ part at n t)) (small : size ≤ 8202) where
+-- bytes stored over as many others of a list, and over its first
+module _ (n : ℕ) (l p q : List ℕ) (e : q ≡ p) (f : length p ≡ n) where
+  pub laid_over : (w : ℕ) → put_mid w n l q ≡ overlay w p l
+  laid_over w = rw (e, ← f, overlay-is w p l, drop-drop (length p) w l)
+
+  pub laid_front : q ++ drop n l ≡ overlay 0 p l
+  laid_front = rw (e, ← f, overlay-is 0 p l, zero-add (length p))
+
+-- d joins, and `size` is the packet's own length
+pub record Joins (e : Numbers) (d g o : List ℕ) (size : ℕ) : Type 0 where
+  pub ready : Ready e g o
+  pub in-step : e.in_step ≡ true
+  pub some : 0 < e.waiting
+  pub own : size ≡ size_of (take e.waiting g ++ d)
+  pub small : size ≤ 8202
+
+module _ (e : Numbers) (d g o : List ℕ) (size : ℕ) (j : Joins e d g o size) where
   abbrev w : ℕ
   w = e.waiting
-
-  abbrev d : List ℕ
-  d = part at n t
 
   abbrev all : List ℕ
   all = take w g ++ d
 
+  abbrev en : Entered e g
+  en = j.ready.entered
+
+  fits : w < length g
+  fits = omega (arith, en.few, j.ready.roomy)
+
   long-w : length (take w g) ≡ w
-  long-w = length-take-le w g (omega (arith, en.few))
+  long-w = length-take-le w g (omega (arith, fits))
 
-  long-d : length d ≡ n
-  long-d = length_part at n t in-t
-
-  long : length all ≡ w + n
-  long = length-append (take w g) d ∙ rw (long-w, long-d)
+  long : length all ≡ w + length d
+  long = length-append (take w g) d ∙ rw long-w
 
   pub beyond : w < size
-  beyond = rw (← own, long-w) at (size-beyond (take w g) d (rw long-w en.short))
+  beyond = rw (← j.own, long-w) at (size-beyond (take w g) d (rw long-w en.short))
 
   waiting : none (take w g) ≡ false
-  waiting = ne_eqb (length (take w g)) 0 (λ z. omega (arith, long-w, z))
+  waiting = ne_eqb (length (take w g)) 0 (λ z. omega (arith, j.some, long-w, z))
 
   joining-bytes : joiners d (hand_of e g) ≡ take (size - w) d
-  joining-bytes = some-join d (hand_of e g) s waiting ∙ rw (← own, long-w)
+  joining-bytes = some-join d (hand_of e g) j.in-step waiting ∙ rw (← j.own, long-w)
 
-  pub led-waits : w + n < size → (r : Numbers) (after : List ℕ) → after ≡ copied_to w n t at g
-      → r ≡ waits_in (w + n) e
+  pub led-waits : w + length d < size → (r : Numbers) (after : List ℕ) → after ≡ overlay w d g
+      → r ≡ waits_in (w + length d) e
       → record { held = r; gathering = after; output = o } ≡ led_of e d g o
   unfolding led_of joined
   led-waits k r after f q =
-      rw (joins-short d (hand_of e g) s waiting (rw (long, ← own) k), joining-bytes, take_all (size - w) d (rw long-d (omega arith)), overlay-none 0 o, long, f ∙ copied-to w n t at g in-t (omega (arith, en.few)), q, en.bytes, en.packets)
+      rw (joins-short d (hand_of e g) j.in-step waiting (rw (long, ← j.own) k), joining-bytes, take_all (size - w) d (omega arith), overlay-none 0 o, long, f, q, en.bytes, en.packets)
 
-  module _ (k : size ≤ w + n) where
-    stored : copied_to w (size - w) t at g ≡ overlay w (take (size - w) d) g
-    stored =
-        copied-to w (size - w) t at g (omega arith) (omega (arith, beyond)) ∙ ap (λ (x : List ℕ). overlay w x g) (sym (take_part at n (size - w) t (omega arith)))
-
+  module _ (k : size ≤ w + length d) (after : List ℕ) (f : after ≡ overlay w (take (size - w) d) g) where
     -- the packet stands in the gathering buffer
-    pub stands : (after : List ℕ) → after ≡ copied_to w (size - w) t at g → take size after ≡ take size all
-    stands after f =
-        let j : length (take (size - w) d) ≡ size - w = length-take-le (size - w) d (rw long-d (omega arith)) in
+    pub stands : take size after ≡ take size all
+    stands =
+        let l : length (take (size - w) d) ≡ size - w = length-take-le (size - w) d (omega arith) in
         let m : w + (size - w) ≡ size = omega (arith, beyond) in
-        ap (take size) (f ∙ stored)
-        ∙ (rw (j, m) at (take-overlay w (take (size - w) d) g (omega (arith, en.few))))
+        ap (take size) f
+        ∙ (rw (l, m) at (take-overlay w (take (size - w) d) g (omega (arith, fits))))
         ∙ sym (rw (long-w, m) at (take-append-add (take w g) d (size - w)))
 
-    finished : size_of all ≤ length all
-    finished = rw (long, ← own) k
+    pub packet-long : length (take size all) ≡ size
+    packet-long = length-take-le size all (rw long k)
 
-    pub led-fails : (r : Numbers) (after : List ℕ) → after ≡ copied_to w (size - w) t at g → crc_holds (take size all) ≡ false
+    finished : size_of all ≤ length all
+    finished = rw (long, ← j.own) k
+
+    pub led-fails : crc_holds (take size all) ≡ false → (r : Numbers)
         → r ≡ crc_fails_in e
         → record { held = r; gathering = after; output = o } ≡ led_of e d g o
     unfolding led_of joined
-    led-fails r after f c q =
-        rw (joins-bad d (hand_of e g) s waiting finished (rw (← own) c), joining-bytes, overlay-none 0 o, f ∙ stored, q, en.bytes, en.packets)
+    led-fails c r q =
+        rw (joins-bad d (hand_of e g) j.in-step waiting finished (rw (← j.own) c), joining-bytes, overlay-none 0 o, f, q, en.bytes, en.packets)
 
-    module _ (r : Numbers) (after out : List ℕ) (f : after ≡ copied_to w (size - w) t at g) (c : crc_holds (take size all) ≡ true) (l : out ≡ overlay 0 (take size all) o) where
+    module _ (c : crc_holds (take size all) ≡ true) (out : List ℕ) (l : out ≡ overlay 0 (take size all) o) (r : Numbers) where
       handed : led_of e d g o ≡ record { held = numbers (strays (drop size all) (hands_out (take size all ∷ []) (hand_of e g))); gathering = after; output = overlay 0 (joined (strays (drop size all) (hands_out (take size all ∷ []) (hand_of e g))).packets) o }
       unfolding led_of
-      handed = rw (joins-good d (hand_of e g) s waiting finished (rw (← own) c), joining-bytes, f ∙ stored, ← own)
+      handed = rw (joins-good d (hand_of e g) j.in-step waiting finished (rw (← j.own) c), joining-bytes, f, ← j.own)
 
-      pub led-over : size < w + n → r ≡ misfits_in (hands_out_in size e)
+      pub led-over : size < w + length d → r ≡ misfits_in (hands_out_in size e)
           → record { held = r; gathering = after; output = out } ≡ led_of e d g o
       led-over m q =
-          sym (handed ∙ rw (ne_eqb (length (drop size all)) 0 (λ z. omega (arith, z, length-drop size all, long)), joined-one (take size all), length-take-le size all (rw long (omega arith)), l, q, en.bytes, en.packets, zero-add size))
+          sym (handed ∙ rw (ne_eqb (length (drop size all)) 0 (λ z. omega (arith, z, length-drop size all, long)), joined-one (take size all), packet-long, l, q, en.bytes, en.packets, zero-add size))
 
-      pub led-even : w + n ≤ size → r ≡ hands_out_in size e
+      pub led-even : w + length d ≤ size → r ≡ hands_out_in size e
           → record { held = r; gathering = after; output = out } ≡ led_of e d g o
       led-even m q =
-          sym (handed ∙ rw (eq-eqb (length (drop size all)) 0 (omega (arith, length-drop size all, long)), joined-one (take size all), length-take-le size all (rw long (omega arith)), l, q, en.bytes, en.packets, zero-add size))
+          sym (handed ∙ rw (eq-eqb (length (drop size all)) 0 (omega (arith, length-drop size all, long)), joined-one (take size all), packet-long, l, q, en.bytes, en.packets, zero-add size))
 
 -- ---- what the stage hands out
 

@@ -3,7 +3,7 @@
 use mathlib.Core.Path.{◌≡◌, refl, sym, ap, ◌∙◌}
 use mathlib.Core.Bool.{true, false, not}
 use mathlib.Core.List.{List, [], ◌∷◌, ◌++◌, append_assoc}
-use Prim.Native.Nat.{ℕ, ◌+◌, ◌-◌, ◌%◌, ◌≤◌, ◌<◌}
+use Prim.Native.Nat.{ℕ, ◌+◌, ◌%◌, ◌≤◌, ◌<◌}
 use native.Mathlib.Nat.{min-le_right}
 use native.Mathlib.Omega.{arith}
 use lib.Dec.{leb}
@@ -12,7 +12,7 @@ use lib.Seq.{take-length, drop-length, length-take-le}
 use borrow.Author.Tests.{eq-eqb, lt-leb, leb-true, leb-false}
 use Rattle.fields.specs.Parts.{overlay}
 use Rattle.fields.proofs.Cases.{cases}
-use Rattle.fields.proofs.PartLaws.{length_part, overlay-is}
+use Rattle.fields.proofs.PartLaws.{overlay-is}
 use Rattle.refusals.specs.Checks.{first}
 use Rattle.refusals.proofs.CheckLaws.{first-zero}
 use Rattle.packet.specs.Layout.{size_of}
@@ -26,7 +26,7 @@ use Rattle.transport.proofs.LoadLaws.{Sound, pointer_is, Found, found}
 use Rattle.gather.specs.State.{unfit, repeats, gather_checks}
 use Rattle.gather.specs.Rules.{none, Brought, brought_by, Hand, waits, hands_out, rule_one, up_to_start, from_start, rules_on}
 use Rattle.gather.specs.Gather.{in_hand, joiners, answer_of, entered_of, result_of, taken_of}
-use Rattle.gather.specs.declared.Last.TheVariants.{Nothing, Count}
+use Rattle.std.specs.Prelude.{None, Some}
 use Rattle.gather.specs.declared.Reader.{Reader}
 use Rattle.gather.proofs.RefusalLaws.{carriage-taken, payload-in}
 use Rattle.gather.proofs.EnterLaws.{rule-kept}
@@ -72,16 +72,16 @@ brought-start pid count n d hp hc sound =
 -- A theorem: without a start every accepted packet brings a byte, so that rule 2 finds a misfit where nothing waits
 pub plain-carries : (t : List ℕ) → length t ≡ 188 → field_long t ≡ false → starts t ≡ false → 0 < length (brought_by t).before
 plain-carries t w f b =
-    rw (brings-plain t b w, length_part (payload_at t) (188 - payload_at t) t (omega (arith, payload-in t f))) (omega (arith, payload-in t f))
+    rw (brings-plain t b, length-drop (payload_at t) t) (omega (arith, payload-in t f))
 
 -- ---- rule 1, where nothing was lost
 
 module _ (h : Hand) (short : length h.waiting < size_of h.waiting) where
-  pub rule-first : (count : ℕ) → rule_one Nothing count h ≡ h
-  rule-first count = rule-kept Nothing count h refl (lt-leb _ _ short)
+  pub rule-first : (count : ℕ) → rule_one None count h ≡ h
+  rule-first count = rule-kept None count h refl (lt-leb _ _ short)
 
-  pub rule-next : (n count : ℕ) → count ≡ (n + 1) % 16 → rule_one (Count n) count h ≡ h
-  rule-next n count e = rule-kept (Count n) count h (ap not (eq-eqb count ((n + 1) % 16) e)) (lt-leb _ _ short)
+  pub rule-next : (n count : ℕ) → count ≡ (n + 1) % 16 → rule_one (Some n) count h ≡ h
+  rule-next n count e = rule-kept (Some n) count h (ap not (eq-eqb count ((n + 1) % 16) e)) (lt-leb _ _ short)
 
 -- ---- packets
 

@@ -7,7 +7,9 @@ use Prim.Native.Nat.{ℕ, ◌+◌, ◌≤◌, ◌<◌}
 use native.Mathlib.Omega.{arith}
 use lib.Dec.{eqb, ltb}
 use lib.ListN.{length, get_or}
-use borrow.Author.Tests.{eq-eqb, eqb-true, le-ltb, ltb-false, leb-false, not-false}
+use borrow.Author.Tests.{eq-eqb, ne_eqb, eqb-true, eqb-false, le-ltb, ltb-false, leb-false, not-false}
+use Rattle.std.specs.Prelude.{Option, None, Some}
+use Rattle.std.specs.Option.{option_eq}
 use Rattle.fields.proofs.Cases.{cases}
 use Rattle.refusals.specs.Checks.{◌when◌, first}
 use Rattle.refusals.proofs.CheckLaws.{none-holds, none-front, first-zero, first-front, first-behind}
@@ -29,6 +31,16 @@ module _ (s : Reader) (t : List ℕ) (room space : ℕ) (fit : unfit s ≡ false
   pub carriage-taken : (b : Bool) → 0 ≡ first (transport_checks s.pid t) → repeats s.last (count_of t) ≡ b → cond b 12 0 ≡ first (gather_checks s t room space)
   carriage-taken b e r =
       sym (four-passed ∙ first-behind (transport_checks s.pid t) _ (none-holds (transport_checks s.pid t) (unfold transport_checks in tt) (sym e)) ∙ rw r)
+
+-- ---- the last count
+
+-- `==` on options asks whether the count is repeated
+pub repeats-is : (last : Option ℕ) (count : ℕ) → option_eq eqb last (Some count) ≡ repeats last count
+repeats-is None count = refl
+repeats-is (Some n) count =
+    cases (eqb n count)
+    (λ t. rw (t, eq-eqb count n (sym (eqb-true n count t))))
+    (λ t. rw (t, ne_eqb count n (λ e. eqb-false n count t (sym e))))
 
 -- ---- what is known once nothing was refused
 

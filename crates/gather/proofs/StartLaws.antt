@@ -4,16 +4,16 @@ use mathlib.Core.Path.{◌≡◌, refl, sym, ap, ap₂, ◌∙◌}
 use mathlib.Core.Bool.{cond}
 use mathlib.Core.List.{List, ◌++◌}
 use Prim.Native.Nat.{ℕ, ◌+◌, ◌-◌, ◌≤◌}
-use native.Mathlib.Nat.{zero-add}
+use native.Mathlib.Nat.{zero-add, sub-zero}
 use native.Mathlib.Omega.{arith}
 use lib.Dec.{eqb}
 use lib.ListN.{length, take, drop, length-append, length-drop}
-use lib.Seq.{drop_at, drop-drop, take-length}
+use lib.Seq.{drop_at, drop-length, take_all}
 use Rattle.fields.specs.Numbers.{Bytes}
-use Rattle.fields.specs.Parts.{part, overlay, copied_to}
+use Rattle.fields.specs.Parts.{overlay}
 use Rattle.fields.proofs.Cases.{cases}
 use Rattle.fields.proofs.NumberLaws.{bytes_take, bytes-append}
-use Rattle.fields.proofs.PartLaws.{part_none, part_bytes, overlay-next, copied-to}
+use Rattle.fields.proofs.PartLaws.{overlay-next}
 use Rattle.packet.specs.Cut.{Cut, cut, joined}
 use Rattle.packet.proofs.CutLaws.{cut-cuts, joined-append}
 use Rattle.gather.specs.Rules.{none, Hand, misfits, up_to_start, unfinished, from_start}
@@ -53,44 +53,45 @@ module _ (l : List ℕ) (f : Hand) (o : List ℕ) where
       (λ b. rw (b, laid_on, bytes_on, length-append f.packets ps))
       (λ b. rw (b, laid_on, bytes_on, length-append f.packets ps))
 
--- ---- what waits then is the end of the transport packet
+-- ---- what waits then is the end of what came
 
-module _ (t : List ℕ) (a : ℕ) (f : Hand) (i : a ≤ length t) where
+-- a list from k on
+pub from_on : (k : ℕ) (l : List ℕ) → take (length l - k) (drop k l) ≡ drop k l
+from_on k l = take_all (length l - k) (drop k l) (simp length-drop (omega arith))
+
+module _ (l : List ℕ) (f : Hand) where
   abbrev c : Cut
-  c = cut (drop a t)
+  c = cut l
 
-  split : length (joined c.packets) + length c.rest ≡ length t - a
-  split = sym (length-append (joined c.packets) c.rest) ∙ ap length (cut-cuts (drop a t)).bytes ∙ length-drop a t
+  split : length (joined c.packets) + length c.rest ≡ length l
+  split = sym (length-append (joined c.packets) c.rest) ∙ ap length (cut-cuts l).bytes
 
-  rest-there : part (length t - length c.rest) (length c.rest) t ≡ c.rest
-  unfolding part
+  rest-there : drop (length l - length c.rest) l ≡ c.rest
   rest-there =
-      let k : length t - length c.rest ≡ a + length (joined c.packets) = omega (arith, split) in
-      let d : drop (a + length (joined c.packets)) t ≡ c.rest =
-      sym (drop-drop (length (joined c.packets)) a t) ∙ ap (drop (length (joined c.packets))) (sym (cut-cuts (drop a t)).bytes) ∙ drop_at (joined c.packets) c.rest (length (joined c.packets)) refl in
-      rw (k, d) (take-length c.rest)
+      let k : length l - length c.rest ≡ length (joined c.packets) = omega (arith, split) in
+      rw k (ap (drop (length (joined c.packets))) (sym (cut-cuts l).bytes) ∙ drop_at (joined c.packets) c.rest (length (joined c.packets)) refl)
 
-  pub waits_there : part (length t - length (from_start (drop a t) f).waiting) (length (from_start (drop a t) f).waiting) t ≡ (from_start (drop a t) f).waiting
+  pub waits_there : drop (length l - length (from_start l f).waiting) l ≡ (from_start l f).waiting
   unfolding from_start
-  waits_there = cases c.bad (λ b. rw b (part_none _ t)) (λ b. rw b rest-there)
+  waits_there = cases c.bad (λ b. rw (b, sub-zero (length l)) (drop-length l)) (λ b. rw b rest-there)
 
-  pub waits-few : length (from_start (drop a t) f).waiting ≤ length t - a
+  pub waits-few : length (from_start l f).waiting ≤ length l
   unfolding from_start
   waits-few = cases c.bad (λ b. rw b (omega arith)) (λ b. rw b (omega (arith, split)))
 
 -- ---- the whole, as the code goes
 
-module _ (e : Numbers) (g o t : List ℕ) (at n : ℕ) (whole : length t ≡ 188) (in-t : at + n ≤ length t) (first : Numbers) (g1 o1 : List ℕ)
-    (led : record { held = first; gathering = g1; output = o1 } ≡ led_of e (part at n t) g o) (begun : Numbers)
+module _ (e : Numbers) (g o d l : List ℕ) (first : Numbers) (g1 o1 : List ℕ)
+    (led : record { held = first; gathering = g1; output = o1 } ≡ led_of e d g o) (begun : Numbers)
     (dropped : begun ≡ cond (eqb first.waiting 0) first (misfits_in first)) where
   abbrev f : Hand
-  f = up_to_start (part at n t) (hand_of e g)
+  f = up_to_start d (hand_of e g)
 
   first-is : first ≡ numbers f
   unfolding led_of
   first-is = ap (λ (x : AfterStage). x.held) led
 
-  g1-is : g1 ≡ overlay e.waiting (joiners (part at n t) (hand_of e g)) g
+  g1-is : g1 ≡ overlay e.waiting (joiners d (hand_of e g)) g
   unfolding led_of
   g1-is = ap (λ (x : AfterStage). x.gathering) led
 
@@ -101,33 +102,34 @@ module _ (e : Numbers) (g o t : List ℕ) (at n : ℕ) (whole : length t ≡ 188
   begun-is : begun ≡ numbers (unfinished f)
   begun-is = dropped ∙ rw first-is (unfinished-numbers f)
 
-  pub begun-small : Bytes g → Bytes t → (begun.packets ≤ 1) × (begun.bytes ≤ 8202)
-  begun-small bg bt =
-      let s : Small f.packets = front-small (bytes-append (take e.waiting g) (part at n t) (bytes_take e.waiting g bg) (part_bytes at n t bt)) (front (part at n t) (hand_of e g) refl) in
+  pub begun-small : Bytes g → Bytes d → (begun.packets ≤ 1) × (begun.bytes ≤ 8202)
+  begun-small bg bd =
+      let s : Small f.packets = front-small (bytes-append (take e.waiting g) d (bytes_take e.waiting g bg) bd) (front d (hand_of e g) refl) in
       rw (begun-is, unfinished-packets f) (s.number, s.bytes)
 
-  module _ (r : Numbers) (o2 : List ℕ) (went : record { held = r; output = o2 } ≡ followed_of begun (drop (at + n) t) o1) where
+  module _ (r : Numbers) (o2 : List ℕ) (went : record { held = r; output = o2 } ≡ followed_of begun l o1) where
     abbrev h : Hand
-    h = from_start (drop (at + n) t) (unfinished f)
+    h = from_start l (unfinished f)
 
     on : ◌≡◌ {A = AfterStart} (record { held = r; output = o2 }) (record { held = numbers h; output = overlay 0 (joined h.packets) o })
     on =
         went
-        ∙ ap₂ (λ (x : Numbers) (m : List ℕ). followed_of x (drop (at + n) t) m) begun-is (o1-is ∙ ap (λ (x : List (List ℕ)). overlay 0 (joined x) o) (sym (unfinished-packets f)))
-        ∙ from-start-numbers (drop (at + n) t) (unfinished f) o
+        ∙ ap₂ (λ (x : Numbers) (m : List ℕ). followed_of x l m) begun-is (o1-is ∙ ap (λ (x : List (List ℕ)). overlay 0 (joined x) o) (sym (unfinished-packets f)))
+        ∙ from-start-numbers l (unfinished f) o
 
     r-is : r ≡ numbers h
     r-is = ap (λ (x : AfterStart). x.held) on
 
-    pub left-few : r.waiting ≤ 188 - (at + n)
-    left-few = rw (r-is, ← whole) (waits-few t (at + n) (unfinished f) in-t)
+    pub left-few : r.waiting ≤ length l
+    left-few = rw r-is (waits-few l (unfinished f))
 
-    pub with-start : (g2 : List ℕ) → 188 ≤ length g1 → g2 ≡ copied_to 0 r.waiting t (188 - r.waiting) g1
-        → record { held = r; gathering = g2; output = o2 } ≡ with_start_of e (part at n t) (drop (at + n) t) g o
+    -- what is left of l waits
+    pub left-is : drop (length l - r.waiting) l ≡ h.waiting
+    left-is = rw r-is (waits_there l (unfinished f))
+
+    pub with-start : (g2 : List ℕ) → g2 ≡ overlay 0 (drop (length l - r.waiting) l) g1
+        → record { held = r; gathering = g2; output = o2 } ≡ with_start_of e d l g o
     unfolding with_start_of
-    with-start g2 room q =
-        let k : r.waiting ≡ length h.waiting = ap (λ (x : Numbers). x.waiting) r-is in
-        let c : g2 ≡ overlay 0 h.waiting g1 =
-        q ∙ copied-to 0 r.waiting t (188 - r.waiting) g1 (omega (arith, left-few)) (omega (arith, left-few))
-        ∙ ap (λ (x : List ℕ). overlay 0 x g1) (rw (k, ← whole) (waits_there t (at + n) (unfinished f) in-t)) in
-        rw (c, g1-is, r-is, ap (λ (x : AfterStart). x.output) on)
+    with-start g2 q =
+        let k : g2 ≡ overlay 0 h.waiting g1 = q ∙ ap (λ (x : List ℕ). overlay 0 x g1) left-is in
+        rw (k, g1-is, r-is, ap (λ (x : AfterStart). x.output) on)

@@ -16,6 +16,8 @@ use Rattle.fields.proofs.Cases.{cases, true≢false}
 use Rattle.fields.proofs.NumberLaws.{bytes_take, bytes_drop, bytes-append}
 use Rattle.refusals.specs.Checks.{first}
 use Rattle.refusals.specs.Answers.{answer}
+use Rattle.refusals.specs.declared.Refusal.{Refusal}
+use Rattle.refusals.proofs.NumberLaws.{number-not-0}
 use Rattle.refusals.proofs.AnswerLaws.{answer-shows}
 use Rattle.packet.specs.Layout.{size_of}
 use Rattle.packet.specs.Cut.{cut, joined}
@@ -24,11 +26,11 @@ use Rattle.packet.proofs.CutLaws.{cut_short, cut-bad, cut-good, cut-cuts}
 use Rattle.transport.specs.Header.{starts, carried_at, carried_by, pointer_of}
 use Rattle.transport.specs.Tests.{pid_outside}
 use Rattle.transport.proofs.HeaderLaws.{count-few}
-use Rattle.gather.specs.State.{fresh, no_reader, start_of, waits_out_of_step, unfit, gather_checks}
+use Rattle.gather.specs.State.{Started, started_told, fresh, no_reader, start_of, waits_out_of_step, unfit, gather_checks}
 use Rattle.gather.specs.Rules.{none, Brought, brought_by, Hand, lost, misfits, crc_fails, waits, hands_out, out_of_turn, reaches, strays, rule_one, up_to_start, unfinished, from_start, rules_on}
 use Rattle.gather.specs.Gather.{Outcome, in_hand, entered_of, result_of, refused_of, taken_of, gather_of}
 use Rattle.gather.specs.Theorems.{InOrder}
-use Rattle.gather.specs.declared.Last.{Last}
+use Rattle.std.specs.Prelude.{Option, Result, Ok, Err}
 use Rattle.gather.specs.declared.Reader.{Reader}
 use Rattle.gather.proofs.RefusalLaws.{Fit, fit_parts, fit-whole}
 use Rattle.gather.proofs.EnterLaws.{rule-lost, rule-altered, rule-kept}
@@ -45,13 +47,17 @@ pub start-refused : (pid : ℕ) → pid_outside pid ≡ true → start_of pid �
 unfolding start_of answer
 start-refused pid h = rw h
 
+pub start-ok : (pid : ℕ) → pid_outside pid ≡ false → (r : Result Reader Refusal) → started_told r ≡ start_of pid → r ≡ Ok (fresh pid)
+start-ok pid h (Ok s) e = ap Ok (ap (λ (x : Started). x.reader) (e ∙ start-taken pid h))
+start-ok pid h (Err x) e = absurd (number-not-0 x (ap (λ (y : Started). y.refusal) (e ∙ start-taken pid h)))
+
 pub fresh-fit : (pid : ℕ) → pid_outside pid ≡ false → unfit (fresh pid) ≡ false
 unfolding unfit
 fresh-fit pid h = rw h
 
 -- ---- each stage by its cases
 
-pub rule-cases : (P : Hand → Type 0) (last : Last) (count : ℕ) (h : Hand) → P (lost h) → P (misfits h) → (reaches h.waiting ≡ false → P h) → P (rule_one last count h)
+pub rule-cases : (P : Hand → Type 0) (last : Option ℕ) (count : ℕ) (h : Hand) → P (lost h) → P (misfits h) → (reaches h.waiting ≡ false → P h) → P (rule_one last count h)
 rule-cases P last count h gone altered kept =
     cases (out_of_turn last count)
     (λ b. rw (rule-lost last count h b) gone)
@@ -90,7 +96,7 @@ rest-short-by (suc k) l i b =
 pub rest-short : (l : List ℕ) → (cut l).bad ≡ false → length (cut l).rest < size_of (cut l).rest
 rest-short l b = rest-short-by (length l) l (omega arith) b
 
-pub rule-order : (last : Last) (count : ℕ) (h : Hand) → (h.step ≡ false → h.waiting ≡ []) → InOrder (rule_one last count h)
+pub rule-order : (last : Option ℕ) (count : ℕ) (h : Hand) → (h.step ≡ false → h.waiting ≡ []) → InOrder (rule_one last count h)
 rule-order last count h i =
     rule-cases InOrder last count h (empty-order (lost h) refl) (empty-order (misfits h) refl) (λ r. record { short = leb-false _ _ r; idle = i })
 

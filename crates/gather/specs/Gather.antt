@@ -1,15 +1,31 @@
 -- Gathering one transport packet: what the rules give, as the numbers of the answer and the bytes of the two buffers.
-use Rattle.std.specs.Prelude.{ℕ, ◌-◌, cond, List, [], ◌++◌, length, take}
+use Rattle.std.specs.Prelude.{ℕ, ◌-◌, cond, List, [], ◌++◌, length, take, Some, Result}
 use Rattle.fields.specs.Parts.{overlay}
-use Rattle.refusals.specs.Answers.{answer}
+use Rattle.refusals.specs.Answers.{answer, told}
+use Rattle.refusals.specs.declared.Refusal.{Refusal}
 use Rattle.packet.specs.Layout.{size_of}
 use Rattle.packet.specs.Cut.{joined}
 use Rattle.gather.specs.State.{gather_checks}
 use Rattle.gather.specs.Marks.{no_marks}
 use Rattle.gather.specs.Rules.{none, Brought, brought_by, Hand, rule_one, rules_on}
-use Rattle.gather.specs.declared.Last.TheVariants.{Count}
 use Rattle.gather.specs.declared.Reader.{Reader}
-use Rattle.gather.specs.declared.Gathered.{Gathered}
+use Rattle.gather.specs.declared.Marks.{Marks}
+use Rattle.gather.specs.declared.Gathered as given
+
+-- what a call answers: the next state, the bytes and packets written, and the marks; with a refusal the old state and zeros
+pub record Gathered : Type 0 where
+  pub refusal : ℕ
+  pub reader : Reader
+  pub bytes : ℕ
+  pub packets : ℕ
+  pub marks : Marks
+
+-- the answer that a result of `gather` stands for, where s is the reader after it
+abbrev pub gathered_told : Reader → Result given.Gathered Refusal → Gathered
+gathered_told s r =
+    told (λ n. record { refusal = n; reader = s; bytes = 0; packets = 0; marks = no_marks })
+    (λ g. record { refusal = 0; reader = s; bytes = g.bytes; packets = g.packets; marks = g.marks })
+    r
 
 -- the answer, and what the two lent buffers hold after it
 pub record Outcome : Type 0 where
@@ -30,7 +46,7 @@ joiners d h =
     []
 
 abbrev pub next_of : ℕ → ℕ → Hand → Reader
-next_of pid count h = record { pid = pid; last = Count count; in_step = h.step; waiting = length h.waiting }
+next_of pid count h = record { pid = pid; last = Some count; in_step = h.step; waiting = length h.waiting }
 
 abbrev pub answer_of : ℕ → ℕ → Hand → Gathered
 answer_of pid count h =

@@ -1,16 +1,14 @@
 -- What the private functions do: the stages of Rules.antt on the numbers that the code has in hand. The statements of
 -- `start` and `gather` do not rest on this file.
-use Rattle.std.specs.Prelude.{◌≡◌, ℕ, ◌+◌, ◌≤◌, ◌<◌, true, false, cond, not, List, [], length, take}
+use Rattle.std.specs.Prelude.{◌≡◌, ℕ, ◌+◌, ◌≤◌, ◌<◌, true, false, cond, not, List, [], length, take, Some}
 use Rattle.fields.specs.Parts.{overlay}
 use Rattle.packet.specs.Layout.{size_of}
 use Rattle.packet.specs.Cut.{cut, joined}
 use Rattle.gather.specs.Marks.{mark_loss, mark_misfit, mark_crc}
 use Rattle.gather.specs.Rules.{Hand, up_to_start, unfinished, from_start}
-use Rattle.gather.specs.Gather.{joiners}
-use Rattle.gather.specs.declared.Last.TheVariants.{Count}
+use Rattle.gather.specs.Gather.{joiners, Gathered}
 use Rattle.gather.specs.declared.Marks.{Marks}
 use Rattle.gather.specs.declared.Numbers.{Numbers}
-use Rattle.gather.specs.declared.Gathered.{Gathered}
 
 -- the numbers of what is in hand
 abbrev pub numbers : Hand → Numbers
@@ -48,7 +46,7 @@ abbrev pub answer_by : ℕ → ℕ → Numbers → Gathered
 answer_by pid count h =
     record {
       refusal = 0;
-      reader = record { pid = pid; last = Count count; in_step = h.in_step; waiting = h.waiting };
+      reader = record { pid = pid; last = Some count; in_step = h.in_step; waiting = h.waiting };
       bytes = h.bytes;
       packets = h.packets;
       marks = h.marks;
@@ -65,6 +63,12 @@ pub record Entered (e : Numbers) (gathering : List ℕ) : Type 0 where
   pub packets : e.packets ≡ 0
   pub short : e.waiting < size_of (take e.waiting gathering)
   pub few : e.waiting ≤ 8201
+
+-- and there is room for all that may come
+pub record Ready (e : Numbers) (gathering output : List ℕ) : Type 0 where
+  pub entered : Entered e gathering
+  pub roomy : 8202 ≤ length gathering
+  pub spacious : 8385 ≤ length output
 
 -- the numbers after a stage, and what the buffers hold
 pub record AfterStage : Type 0 where

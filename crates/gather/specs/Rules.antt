@@ -1,6 +1,6 @@
 -- The reader's rules 1 to 4 on lists: which packets a transport packet finishes, and what waits after it. Each stage takes
 -- what the reader has in hand and gives what it then has.
-use Rattle.std.specs.Prelude.{ℕ, ◌+◌, ◌%◌, Bool, true, false, cond, not, List, [], ◌∷◌, ◌++◌, leb, eqb, length, take, drop, Result, Ok, Err}
+use Rattle.std.specs.Prelude.{ℕ, ◌+◌, ◌%◌, Bool, true, false, cond, not, List, [], ◌∷◌, ◌++◌, leb, eqb, length, take, drop, Option, None, Some, Result, Ok, Err}
 use Rattle.packet.specs.Layout.{size_of}
 use Rattle.packet.specs.Cut.{judge_of, cut}
 use Rattle.packet.specs.declared.Flaw.{Flaw}
@@ -8,8 +8,6 @@ use Rattle.packet.specs.declared.Flaw.TheVariants.{Short, Bad}
 use Rattle.transport.specs.Header.{count_of, starts, pointer_of, carried_by}
 use Rattle.gather.specs.Marks.{mark_loss, mark_misfit, mark_crc}
 use Rattle.gather.specs.declared.Marks.{Marks}
-use Rattle.gather.specs.declared.Last.{Last}
-use Rattle.gather.specs.declared.Last.TheVariants.{Nothing, Count}
 
 abbrev pub none : List ℕ → Bool
 none l = eqb (length l) 0
@@ -65,11 +63,11 @@ hands_out ps h = record { step = h.step; waiting = []; packets = h.packets ++ ps
 -- ---- rule 1
 
 -- a count other than last plus 1 modulo 16, if there is a last
-abbrev pub out_of_turn : Last → ℕ → Bool
-out_of_turn Nothing count = false
-out_of_turn (Count n) count = not (eqb count ((n + 1) % 16))
+abbrev pub out_of_turn : Option ℕ → ℕ → Bool
+out_of_turn None count = false
+out_of_turn (Some n) count = not (eqb count ((n + 1) % 16))
 
-abbrev pub continuity : Last → ℕ → Hand → Hand
+abbrev pub continuity : Option ℕ → ℕ → Hand → Hand
 continuity last count h = cond (out_of_turn last count) (lost h) h
 
 -- bytes that reach their own length are no start of an unfinished packet
@@ -80,7 +78,7 @@ reaches w = leb (size_of w) (length w)
 abbrev pub altered : Hand → Hand
 altered h = cond (reaches h.waiting) (misfits h) h
 
-unfoldable pub rule_one : Last → ℕ → Hand → Hand
+unfoldable pub rule_one : Option ℕ → ℕ → Hand → Hand
 rule_one last count h = altered (continuity last count h)
 
 -- ---- rules 2 to 4, up to the start

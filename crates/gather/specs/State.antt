@@ -1,24 +1,27 @@
 -- A reader's state: how it starts, which states are refused, and what gathering refuses (01: 38, 1, 2, 3, 5 to 12 in this
 -- order).
-use Rattle.std.specs.Prelude.{ℕ, Bool, false, cond, ◌||◌, List, [], ◌∷◌, ◌++◌, eqb, ltb}
+use Rattle.std.specs.Prelude.{ℕ, Bool, false, cond, ◌||◌, List, [], ◌∷◌, ◌++◌, eqb, ltb, Option, None, Some, Result}
 use Rattle.refusals.specs.Checks.{Check, ◌when◌}
-use Rattle.refusals.specs.Answers.{answer}
+use Rattle.refusals.specs.Answers.{answer, told}
+use Rattle.refusals.specs.declared.Refusal.{Refusal}
 use Rattle.transport.specs.Header.{count_of}
 use Rattle.transport.specs.Tests.{not188, pid_outside, transport_checks}
-use Rattle.gather.specs.declared.Last.{Last}
-use Rattle.gather.specs.declared.Last.TheVariants.{Nothing, Count}
 use Rattle.gather.specs.declared.Reader.{Reader}
-use Rattle.gather.specs.declared.Started.{Started}
 
 -- ---- the start
 
+-- a reader; with a refusal its number, and a reader of zeros
+pub record Started : Type 0 where
+  pub refusal : ℕ
+  pub reader : Reader
+
 -- a fresh reader is out of step with no count
 abbrev pub fresh : ℕ → Reader
-fresh pid = record { pid = pid; last = Nothing; in_step = false; waiting = 0 }
+fresh pid = record { pid = pid; last = None; in_step = false; waiting = 0 }
 
 -- the reader of zeros that comes with a refused start
 abbrev pub no_reader : Reader
-no_reader = record { pid = 0; last = Count 0; in_step = false; waiting = 0 }
+no_reader = record { pid = 0; last = Some 0; in_step = false; waiting = 0 }
 
 unfoldable pub start_of : ℕ → Started
 start_of pid =
@@ -26,11 +29,15 @@ start_of pid =
     (λ n. record { refusal = n; reader = no_reader })
     (record { refusal = 0; reader = fresh pid })
 
+-- the answer that a result of `start` stands for
+abbrev pub started_told : Result Reader Refusal → Started
+started_told r = told (λ n. record { refusal = n; reader = no_reader }) (λ s. record { refusal = 0; reader = s }) r
+
 -- ---- 38: an unfit state, which no accepted call gives
 
-abbrev pub count_over : Last → Bool
-count_over Nothing = false
-count_over (Count n) = ltb 15 n
+abbrev pub count_over : Option ℕ → Bool
+count_over None = false
+count_over (Some n) = ltb 15 n
 
 abbrev pub waits_out_of_step : Bool → ℕ → Bool
 waits_out_of_step step waiting = cond step false (ltb 0 waiting)
@@ -44,9 +51,9 @@ unfit s =
 -- ---- the refusals of gathering
 
 -- 12: same continuity count as the last packet taken
-abbrev pub repeats : Last → ℕ → Bool
-repeats Nothing count = false
-repeats (Count n) count = eqb count n
+abbrev pub repeats : Option ℕ → ℕ → Bool
+repeats None count = false
+repeats (Some n) count = eqb count n
 
 -- `room` is how many bytes the gathering buffer has, and `space` how many the output
 unfoldable pub gather_checks : Reader → List ℕ → ℕ → ℕ → List Check

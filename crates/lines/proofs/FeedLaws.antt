@@ -2,20 +2,21 @@
 -- Assumes nothing.
 use mathlib.Core.Path.{◌≡◌, refl, sym, ap, ◌∙◌}
 use mathlib.Core.Bool.{true, false}
-use mathlib.Core.List.{List, ◌∷◌}
+use mathlib.Core.List.{List, ◌∷◌, ◌++◌, append_assoc}
 use Prim.Native.Nat.{ℕ, ◌+◌, ◌-◌, ◌≤◌, ◌<◌}
-use native.Mathlib.Nat.{zero-add, add_comm}
+use native.Mathlib.Nat.{zero-add}
 use native.Mathlib.Omega.{arith}
-use lib.Dec.{leb, ltb}
-use lib.ListN.{length, get_or, take, drop, set, length-take, length-drop}
-use lib.Seq.{length-take-le, take_all, drop-drop, get_or-append-add, get_or-drop}
-use borrow.Author.Tests.{leb-false, lt-ltb, le-ltb, ltb-false}
+use lib.Dec.{ltb}
+use lib.ListN.{length, take, drop, length-append, length-take, length-drop}
+use lib.Seq.{paste, length-take-le, take_at, drop_at}
+use borrow.Author.Tests.{lt-ltb, le-ltb, ltb-false}
+use Rattle.std.specs.List.{copy_within}
 use Rattle.fields.specs.Parts.{part, overlay}
 use Rattle.fields.proofs.Cases.{cases, true≢false}
-use Rattle.fields.proofs.PartLaws.{get_d_part, overlay-is, overlay-none, overlay-more}
+use Rattle.fields.proofs.PartLaws.{part_none, overlay-is, overlay-none}
 use Rattle.text.specs.Laid.{Filled}
 use Rattle.lines.specs.Pieces.{pieces, kept_of}
-use Rattle.lines.specs.Listing.{roomy, Stepped, step_of, Feeding, fed_of}
+use Rattle.lines.specs.Listing.{roomy, Stepped, step_of, fed_of}
 use Rattle.lines.specs.declared.Listing.{Listing}
 use Rattle.lines.proofs.PieceLaws.{pieces_none, pieces-cons}
 use Rattle.lines.proofs.StepLaws.{step-full, step-goes}
@@ -29,38 +30,38 @@ as_it_was l t g o lines filled s e h =
     (λ y. absurd (true≢false (sym h ∙ ap (λ (z : Stepped). z.answer.full) (e ∙ step-goes l t g o lines filled y))))
     (λ y. e ∙ step-full l t g o lines filled y)
 
--- ---- the loop, which is i bytes into the block
+-- ---- the loop, with d left
 
-module _ (b : List ℕ) (i : ℕ) (l : Listing) (g o lines : List ℕ) (filled : ℕ) where
-  abbrev from_here : Feeding
-  from_here = fed_of (pieces (drop i b)) l g o lines i filled
-
-  pub feed-ends : leb (i + 188) (length b) ≡ false
-      → record { answer = record { full = false; listing = l; taken = i; filled = filled }; gathering = g; output = o; lines = lines } ≡ from_here
+module _ (d : List ℕ) (l : Listing) (g o lines : List ℕ) (taken filled : ℕ) where
+  pub feed-ends : length d < 188
+      → record { answer = record { full = false; listing = l; taken = taken; filled = filled }; gathering = g; output = o; lines = lines } ≡ fed_of (pieces d) l g o lines taken filled
   unfolding fed_of
-  feed-ends h = rw (pieces_none (drop i b) (rw (length-drop i b) (omega (arith, leb-false (i + 188) (length b) h))))
+  feed-ends h = rw (pieces_none d h)
 
-  module _ (h : i + 188 ≤ length b) (s : Stepped) (e : s ≡ step_of l (take (i + 188 - i) (drop i b)) g o lines filled) where
-    cut : pieces (drop i b) ≡ take 188 (drop i b) ∷ pieces (drop (i + 188) b)
-    cut = pieces-cons (drop i b) (rw (length-drop i b) (omega arith)) ∙ ap (λ (d : List ℕ). take 188 (drop i b) ∷ pieces d) (drop-drop 188 i b)
-
-    stepped : s ≡ step_of l (take 188 (drop i b)) g o lines filled
-    stepped = let k : i + 188 - i ≡ 188 = omega arith in e ∙ ap (λ (n : ℕ). step_of l (take n (drop i b)) g o lines filled) k
+  -- a piece, and what is behind it
+  module _ (p on : List ℕ) (e : d ≡ p ++ on) (n : length p ≡ 188) (s : Stepped) (q : s ≡ step_of l p g o lines filled) where
+    cut : pieces d ≡ p ∷ pieces on
+    cut =
+        rw e (pieces-cons (p ++ on) (rw (length-append p on) (omega arith)) ∙ rw (take_at p on 188 n, drop_at p on 188 n))
 
     pub feed-stops : s.answer.full ≡ true
-        → record { answer = record { full = true; listing = l; taken = i; filled = filled }; gathering = s.gathering; output = s.output; lines = s.lines } ≡ from_here
+        → record { answer = record { full = true; listing = s.answer.listing; taken = taken; filled = filled }; gathering = s.gathering; output = s.output; lines = s.lines } ≡ fed_of (pieces d) l g o lines taken filled
     unfolding fed_of
     feed-stops f =
-        ap (λ (z : Stepped). record { answer = record { full = true; listing = l; taken = i; filled = filled }; gathering = z.gathering; output = z.output; lines = z.lines })
-        (as_it_was l (take 188 (drop i b)) g o lines filled s stepped f)
-        ∙ rw (cut, ← stepped, f)
+        ap (λ (z : Stepped). record { answer = record { full = true; listing = z.answer.listing; taken = taken; filled = filled }; gathering = z.gathering; output = z.output; lines = z.lines })
+        (as_it_was l p g o lines filled s q f)
+        ∙ rw (cut, ← q, f)
 
     pub feed-goes : s.answer.full ≡ false
-        → fed_of (pieces (drop (i + 188) b)) s.answer.listing s.gathering s.output s.lines (i + 188) s.answer.filled ≡ from_here
+        → fed_of (pieces on) s.answer.listing s.gathering s.output s.lines (taken + 188) s.answer.filled ≡ fed_of (pieces d) l g o lines taken filled
     unfolding fed_of
-    feed-goes f = rw (cut, ← stepped, f)
+    feed-goes f = rw (cut, ← q, f)
 
 -- ---- the rest of a block
+
+-- bytes pasted are an overlay
+paste_part : (at n : ℕ) (p l : List ℕ) → n ≤ length p → paste l at p n ≡ overlay at (take n p) l
+paste_part at n p l h = rw (overlay-is at (take n p) l, length-take-le n p h, append_assoc (take at l) (take n p) (drop (at + n) l))
 
 module _ (at have : ℕ) (b : List ℕ) where
   pub kept-none : length b < have → record { at = 0; lines = b } ≡ kept_of at have b
@@ -75,32 +76,19 @@ module _ (at have : ℕ) (b : List ℕ) where
     unfolding part
     length_rest = simp (length-take, length-drop) (omega arith)
 
-    pub kept_more : (n : ℕ) (m : List ℕ) → n + at < have → m ≡ overlay 0 (take n rest) b → set m n (get_or m (n + at) 0) ≡ overlay 0 (take (n + 1) rest) b
-    kept_more n m k e =
-        let full : length rest ≡ have - at = length_rest in
-        let here : length (take n rest) ≡ n = length-take-le n rest (omega arith) in
-        let old : get_or (overlay 0 (take n rest) b) (length (take n rest) + at) 0 ≡ get_or (drop (0 + length (take n rest)) b) at 0 =
-        ap (λ (v : List ℕ). get_or v (length (take n rest) + at) 0) (overlay-is 0 (take n rest) b) ∙ get_or-append-add (take n rest) (drop (0 + length (take n rest)) b) at 0 in
-        let byte : get_or m (n + at) 0 ≡ get_or rest n 0 =
-        ap (λ (v : List ℕ). get_or v (n + at) 0) e
-        ∙ ap (λ (j : ℕ). get_or (overlay 0 (take n rest) b) (j + at) 0) (sym here)
-        ∙ old
-        ∙ ap (λ (j : ℕ). get_or (drop j b) at 0) (zero-add (length (take n rest)) ∙ here)
-        ∙ get_or-drop n b at 0
-        ∙ ap (λ (j : ℕ). get_or b j 0) (add_comm n at)
-        ∙ sym (get_d_part at (have - at) b n (omega arith)) in
-        ap (λ (x : ℕ). set m n x) byte
-        ∙ ap (λ (v : List ℕ). set v n (get_or rest n 0)) e
-        ∙ ap (λ (j : ℕ). set (overlay 0 (take n rest) b) j (get_or rest n 0)) (sym (zero-add n))
-        ∙ overlay-more 0 n rest b (omega arith) (omega arith)
-
-    pub kept-all : (n : ℕ) (m : List ℕ) → n ≡ have - at → m ≡ overlay 0 (take n rest) b → record { at = n; lines = m } ≡ kept_of at have b
+    -- nothing is left there
+    pub kept-nothing : have < at → record { at = 0; lines = b } ≡ kept_of at have b
     unfolding kept_of
-    kept-all n m z e =
-        let full : length rest ≡ have - at = length_rest in
-        let a : n ≡ 0 + length rest = omega arith in
-        let l : m ≡ overlay 0 rest b = e ∙ ap (λ (p : List ℕ). overlay 0 p b) (take_all n rest (omega arith)) in
-        rw (le-ltb (length b) have h) (λ i. record { at = a i; lines = l i })
+    kept-nothing k =
+        let z : have - at ≡ 0 = omega arith in
+        rw (le-ltb (length b) have h, z, part_none at b, overlay-none 0 b)
+
+    pub kept-all : (m : List ℕ) → m ≡ copy_within b at have 0 → record { at = have - at; lines = m } ≡ kept_of at have b
+    unfolding kept_of part
+    kept-all m e =
+        let l : m ≡ overlay 0 (take (have - at) (drop at b)) b =
+        e ∙ paste_part 0 (have - at) (drop at b) b (rw (length-drop at b) (omega arith)) in
+        rw (le-ltb (length b) have h, length_rest, zero-add (have - at), l)
 
 pub kept_at : (at have : ℕ) (b : List ℕ) (n : ℕ) (m : List ℕ) → have ≤ length b → record { at = n; lines = m } ≡ kept_of at have b → n ≡ have - at
 unfolding kept_of
@@ -117,6 +105,3 @@ kept-within at have b n m e =
     (cases (ltb (length b) have)
     (λ h. rw h (omega arith))
     (λ h. rw h (let f : have ≤ length b = ltb-false (length b) have h in omega (arith, length_rest at have b f))))
-
-pub kept-at-first : (p b : List ℕ) → b ≡ overlay 0 (take 0 p) b
-kept-at-first p b = sym (overlay-none 0 b)

@@ -15,12 +15,15 @@ use Rattle.fields.specs.Parts.{number_at, overlay}
 use Rattle.fields.proofs.Cases.{cases}
 use Rattle.fields.proofs.FormatLaws.{unpack-fit}
 use Rattle.fields.proofs.PartLaws.{length-overlay}
+use Rattle.std.specs.Prelude.{Result, Ok, Err}
+use Rattle.refusals.specs.Refusals.{number_of}
+use Rattle.refusals.specs.declared.Refusal.{Refusal}
+use Rattle.refusals.proofs.NumberLaws.{number-not-0}
 use Rattle.refusals.specs.Checks.{Check, ◌when◌, holds, number, first}
 use Rattle.packet.specs.Layout.{header, size_of, reserved_type, pad_set}
-use Rattle.packet.specs.Read.{field, header_of, payload_of, reserved_set, read_checks, no_header, read_of}
+use Rattle.packet.specs.Read.{field, header_of, payload_of, reserved_set, read_checks, no_header, read_of, Packet, packet_told}
 use Rattle.packet.specs.Cut.{cut}
 use Rattle.packet.specs.declared.Header.{Header}
-use Rattle.packet.specs.declared.Packet.{Packet}
 use Rattle.packet.proofs.LayoutLaws.{size-least, size-take}
 use Rattle.packet.proofs.CutLaws.{cut_short, cut-bad, cut-good}
 use Rattle.packet.proofs.RoundTrips.{read-shows, read-accepted, read-refused}
@@ -37,6 +40,13 @@ by-refusal p h = rw (ne_eqb p.refusal 0 h)
 pub by-fields : (p : Packet) → p.refusal ≡ 0 → line_by p ≡ fields_line p.header
 unfolding line_by
 by-fields p h = rw (eq-eqb p.refusal 0 h)
+
+-- what reading gave
+pub told_refused : (p : Result Header Refusal) (e : Refusal) → p ≡ Err e → refused_line (number_of e) ≡ line_by (packet_told p)
+told_refused p e q = rw (q, by-refusal (packet_told (Err e)) (number-not-0 e)) refl
+
+pub told_fields : (p : Result Header Refusal) (h : Header) → p ≡ Ok h → fields_line h ≡ line_by (packet_told p)
+told_fields p h q = rw (q, by-fields (packet_told (Ok h)) refl) refl
 
 -- ---- how long a line is
 

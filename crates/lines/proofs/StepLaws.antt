@@ -1,17 +1,22 @@
 -- The laws of a step: it is full or goes, and a refused transport packet changes nothing.
 -- Assumes nothing.
-use mathlib.Core.Path.{◌≡◌, sym, ap, ◌∙◌}
+use mathlib.Core.Path.{◌≡◌, refl, sym, ap, ◌∙◌}
 use mathlib.Core.Bool.{true, false}
 use mathlib.Core.List.{List}
 use Prim.Native.Nat.{ℕ, ◌+◌, ◌-◌, ◌^◌, ◌<◌}
 use native.Mathlib.Nat.{min-eq_left, add-zero}
 use native.Mathlib.Omega.{arith}
 use lib.ListN.{length, take}
+use Rattle.std.specs.Prelude.{Result, Ok, Err}
+use Rattle.std.specs.Result.{ResultUnwrapsOrElse}
+use Rattle.refusals.specs.declared.Refusal.{Refusal}
 use Rattle.fields.specs.Parts.{overlay}
 use Rattle.fields.proofs.PartLaws.{overlay-none}
 use Rattle.packet.specs.Cut.{cut}
-use Rattle.gather.specs.Gather.{Outcome, gather_of}
-use Rattle.gather.specs.declared.Gathered.{Gathered}
+use Rattle.gather.specs.Marks.{no_marks}
+use Rattle.gather.specs.Gather.{Gathered, gathered_told, Outcome, gather_of}
+use Rattle.gather.specs.declared.Reader.{Reader}
+use Rattle.gather.specs.declared.Gathered as given
 use Rattle.gather.proofs.StateLaws.{refusal-changes-nothing}
 use Rattle.gather.proofs.CallLaws.{none-handed}
 use Rattle.text.specs.Laid.{laid}
@@ -19,6 +24,26 @@ use Rattle.lines.specs.Lines.{lines_of}
 use Rattle.lines.specs.Listing.{capped, after_of, roomy, listed_of, step_of}
 use Rattle.lines.specs.declared.Listing.{Listing}
 use Rattle.text.proofs.LayLaws.{laid-at, laid-lines}
+
+-- ---- a call that is refused gives nothing
+
+-- what the caller has in hand says of a call what the call answered
+pub record Gives (call : Gathered) (n : Reader) (c : given.Gathered) : Type 0 where
+  pub reader : call.reader ≡ n
+  pub bytes : call.bytes ≡ c.bytes
+  pub packets : call.packets ≡ c.packets
+  pub marks : call.marks ≡ c.marks
+
+pub gives : (r : Result given.Gathered Refusal) (P : given.Gathered → Type 0) (c : given.Gathered) (n : Reader) → ResultUnwrapsOrElse r P c → (P c → (c.bytes ≡ 0) × (c.packets ≡ 0) × (c.marks ≡ no_marks))
+    → Gives (gathered_told n r) n c
+gives (Ok x) P c n h f =
+    record {
+      reader = refl;
+      bytes = ap (λ (y : given.Gathered). y.bytes) (sym h);
+      packets = ap (λ (y : given.Gathered). y.packets) (sym h);
+      marks = ap (λ (y : given.Gathered). y.marks) (sym h);
+    }
+gives (Err e) P c n h f = let z = f h in record { reader = refl; bytes = sym z.0; packets = sym z.1; marks = sym z.2 }
 
 -- ---- full, or not
 
@@ -44,6 +69,12 @@ module _ (l : Listing) (t g o lines : List ℕ) (filled : ℕ) where
         let now_on : record { answer = record { full = false; listing = next; filled = v }; gathering = g'; output = o'; lines = m } ≡ listed_of l (record { answer = call; gathering = g'; output = o' }) lines filled =
         λ i. record { answer = record { full = false; listing = a i; filled = p i }; gathering = g'; output = o'; lines = q i } in
         now_on ∙ ap (λ (y : Outcome). listed_of l y lines filled) made ∙ sym (step-goes h)
+
+    pub step-given : (n : Reader) (c : given.Gathered) → Gives call n c → (v : ℕ) (m : List ℕ) (next : Listing) → roomy filled (length o) (length lines) ≡ true
+        → record { at = v; lines = m } ≡ laid (lines_of (cut (take c.bytes o')).packets) filled lines
+        → next ≡ after_of l (record { refusal = 0; reader = n; bytes = c.bytes; packets = c.packets; marks = c.marks })
+        → record { answer = record { full = false; listing = next; filled = v }; gathering = g'; output = o'; lines = m } ≡ step_of l t g o lines filled
+    step-given n c k v m next h e a = step-made v m next h (rw k.bytes e) (rw (k.reader, k.packets, k.marks) a)
 
 -- ---- a refused transport packet changes nothing
 

@@ -14,7 +14,7 @@ use Rattle.fields.proofs.Cases.{cases, true≢false}
 use Rattle.fields.proofs.PartLaws.{overlay-is, take-overlay}
 use Rattle.gather.specs.Gather.{Outcome, gather_of}
 use Rattle.gather.specs.Calls.{handed_by}
-use Rattle.gather.specs.declared.Gathered.{Gathered}
+use Rattle.gather.specs.Gather.{Gathered}
 use Rattle.gather.proofs.CallLaws.{Alike, call-alike}
 use Rattle.lines.specs.Lines.{lines_of}
 use Rattle.lines.specs.Listing.{after_of, roomy, Feeding, fed_of}

@@ -3,7 +3,7 @@
 use Rattle.std.specs.Prelude.{ℕ, cond, List, [], ◌∷◌, ◌++◌, eqb}
 use Rattle.packet.specs.Read.{read_of}
 use Rattle.packet.specs.declared.Header.{Header}
-use Rattle.packet.specs.declared.Packet.{Packet}
+use Rattle.packet.specs.Read.{Packet}
 use Rattle.text.specs.Laid.{space, newline, word}
 
 -- "type count frame stream bits"

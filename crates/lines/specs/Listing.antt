@@ -1,14 +1,12 @@
 -- One step of a listing: a transport packet goes to the reader, and what it hands out is counted and gets its lines.
-use Rattle.std.specs.Prelude.{ℕ, ◌+◌, ◌-◌, ◌*◌, ◌^◌, min, Bool, true, false, cond, List, [], ◌∷◌, leb, length}
+use Rattle.std.specs.Prelude.{ℕ, ◌+◌, ◌-◌, ◌*◌, ◌^◌, min, Bool, true, false, cond, List, [], ◌∷◌, leb, length, Option, None, Some}
 use Rattle.fields.specs.Parts.{overlay}
 use Rattle.gather.specs.State.{fresh}
-use Rattle.gather.specs.Gather.{Outcome, gather_of}
+use Rattle.gather.specs.Gather.{Gathered, Outcome, gather_of}
 use Rattle.gather.specs.Calls.{handed_by}
-use Rattle.gather.specs.declared.Gathered.{Gathered}
 use Rattle.lines.specs.Lines.{lines_of}
-use Rattle.lines.specs.declared.Fed.{Fed}
+use Rattle.lines.specs.declared.Fed as given
 use Rattle.lines.specs.declared.Listing.{Listing}
-use Rattle.lines.specs.declared.Step.{Step}
 
 -- the PID that is listed
 abbrev pub listed_pid : ℕ
@@ -42,6 +40,17 @@ after_of l a =
 unfoldable pub roomy : ℕ → ℕ → ℕ → Bool
 roomy filled space room = leb (filled + 2 * space) room
 
+-- what a step answers: the next state, and how much of the lines is filled; or it is full
+pub record Step : Type 0 where
+  pub full : Bool
+  pub listing : Listing
+  pub filled : ℕ
+
+-- the answer that a result of `step` stands for, where l is the listing after it, and so much was filled before it
+abbrev pub step_told : Listing → ℕ → Option ℕ → Step
+step_told l filled (Some n) = record { full = false; listing = l; filled = n }
+step_told l filled None = record { full = true; listing = l; filled = filled }
+
 -- the answer, and what the lent buffers hold after it
 pub record Stepped : Type 0 where
   pub answer : Step
@@ -67,6 +76,18 @@ step_of l t gathering output lines filled =
     (record { answer = record { full = true; listing = l; filled = filled }; gathering = gathering; output = output; lines = lines })
 
 -- ---- pieces, one after another
+
+-- what feeding answers: the next state, how many bytes are taken, and how much of the lines is filled; it is full where it
+-- stopped before a piece whose lines may have too little room
+pub record Fed : Type 0 where
+  pub full : Bool
+  pub listing : Listing
+  pub taken : ℕ
+  pub filled : ℕ
+
+-- the answer that a result of `feed` stands for, where l is the listing after it
+abbrev pub fed_told : Listing → given.Fed → Fed
+fed_told l f = record { full = f.full; listing = l; taken = f.taken; filled = f.filled }
 
 pub record Feeding : Type 0 where
   pub answer : Fed

@@ -2,46 +2,40 @@
 // the lines of the T2-MI packets that it finishes. Where a line has no room nothing of it is laid.
 #![tactic(auto)]
 
-ghost use Rattle.std.specs.Prelude.{◌≡◌, ◌+◌, ◌*◌, ◌<◌, ◌≤◌, ◌++◌, length};
+ghost use Rattle.std.specs.Prelude.{◌≡◌, nat_eq, ◌+◌, ◌*◌, ◌<◌, ◌≤◌, ◌++◌, length, Ok};
 ghost use Rattle.arrayvec.specs.ArrayString.{array_string_len};
+ghost use Rattle.gather.specs.Gather.{gathered_told};
 ghost use Rattle.packet.specs.Cut.{cut};
+ghost use Rattle.packet.specs.Read.{packet_told};
+ghost use Rattle.refusals.specs.Refusals.{number_of};
 ghost use Rattle.text.specs.Laid.{word, Appends, Lays};
 ghost use Rattle.lines.specs.Lines.{head_line, fields_line, refused_line, line_by, lines_of, last_line};
 ghost use Rattle.lines.specs.Pieces.{pieces, kept_of};
-ghost use Rattle.lines.specs.Listing.{start_listing, capped, bit, after_of, roomy, step_of, fed_of};
+ghost use Rattle.lines.specs.Listing.{start_listing, after_of, roomy, step_of, step_told, fed_of, fed_told};
 
 use arrayvec::ArrayString;
 use gather::{Gathered, Reader};
 use itoa::Buffer;
-use packet::{Header, Packet};
+use packet::Header;
+use refusals::Refusal;
 use text::Text;
 
 // A line under way: at most five numbers, and what stands behind each.
 type Line = ArrayString<105>;
 
 // A listing under way: the reader, the packets that it handed out so far, and its loss marks.
-#[derive(Clone, Copy)]
+#[derive(Clone, Copy, Debug, PartialEq, Eq)]
 pub struct Listing {
     pub reader: Reader,
     pub packets: u64,
     pub gaps: u64,
 }
 
-// What a step gives: the next state, and how much of the lines is filled. Where they may have too little room it is full, and
-// all is as it was.
-#[derive(Clone, Copy)]
-pub struct Step {
-    pub full: bool,
-    pub listing: Listing,
-    pub filled: usize,
-}
-
-// What feeding a block gives: the next state, how many bytes of the block are taken, and how much of the lines is filled.
-// Where it is full it stopped before a piece whose lines may have too little room.
-#[derive(Clone, Copy)]
+// What feeding a block gives: how many of its bytes are taken, and how much of the lines is filled. Where it is full it stopped
+// before a piece whose lines may have too little room.
+#[derive(Clone, Copy, Debug, PartialEq, Eq)]
 pub struct Fed {
     pub full: bool,
-    pub listing: Listing,
     pub taken: usize,
     pub filled: usize,
 }
@@ -62,22 +56,23 @@ fn fields_line(h: Header) -> Line
     ensures { result.bytes ≡ fields_line h }
 {
     let mut line = Line::new();
-    lay_word(&mut line, h.kind as u64, ' ');
-    lay_word(&mut line, h.count as u64, ' ');
-    lay_word(&mut line, h.frame as u64, ' ');
-    lay_word(&mut line, h.stream as u64, ' ');
-    lay_word(&mut line, h.bits as u64, '\n');
+    lay_word(&mut line, u64::from(h.kind), ' ');
+    lay_word(&mut line, u64::from(h.count), ' ');
+    lay_word(&mut line, u64::from(h.frame), ' ');
+    lay_word(&mut line, u64::from(h.stream), ' ');
+    lay_word(&mut line, u64::from(h.bits), '\n');
     line
 }
 
 // The line of a refusal.
 #[tactic(auto, unfolding(crate::specs::Lines::refused_line))]
-fn refused_line(refusal: u32) -> Line
-    ensures { result.bytes ≡ refused_line refusal }
+fn refused_line(refusal: Refusal) -> Line
+    ensures { result.bytes ≡ refused_line (number_of refusal) }
 {
     let mut line = Line::new();
     line.push_str("refused ");
-    lay_word(&mut line, refusal as u64, '\n');
+    lay_word(&mut line, u64::from(refusal.number()), '
+');
     line
 }
 
@@ -94,15 +89,22 @@ fn totals_line(packets: u64, gaps: u64) -> Line
     line
 }
 
-// Appends the line of what reading a packet gave. The line is made aside, so that all of it is laid or nothing.
-#[tactic(auto, unfolding(crate::specs::Lines::line_by))]
-pub fn line(text: &mut Text, p: Packet)
-    ensures { Appends (line_by p) text.old text.new }
+// The line of what reading a packet gave.
+#[tactic(auto, using(crate::proofs::LineLaws::told_refused, crate::proofs::LineLaws::told_fields))]
+fn read_line(p: Result<Header, Refusal>) -> Line
+    ensures { result.bytes ≡ line_by (packet_told p) }
 {
-    if p.refusal != 0 {
-        return text.append(refused_line(p.refusal).as_bytes());
+    match p {
+        Ok(h) => fields_line(h),
+        Err(refusal) => refused_line(refusal),
     }
-    text.append(fields_line(p.header).as_bytes());
+}
+
+// Appends the line of what reading a packet gave. The line is made aside, so that all of it is laid or nothing.
+pub fn line(text: &mut Text, p: Result<Header, Refusal>)
+    ensures { Appends (line_by (packet_told p)) text.old text.new }
+{
+    text.append(read_line(p).as_bytes());
 }
 
 // Appends the header.
@@ -111,6 +113,13 @@ pub fn head_line(text: &mut Text)
     ensures { Appends head_line text.old text.new }
 {
     text.append(b"type count frame stream bits\n");
+}
+
+// Whether reading a packet found its CRC wrong.
+fn crc_failed(p: Result<Header, Refusal>) -> bool
+    ensures { result ≡ nat_eq (packet_told p).refusal 14 }
+{
+    p == Err(Refusal::CrcWrong)
 }
 
 // Lays the lines of the packets of s, which stand back to back, up to the first that is not whole. Their CRC is judged by
@@ -127,7 +136,7 @@ fn lay_lines(text: &mut Text, s: &[u8])
         }
         let end = i + size;
         let p = packet::read(&s[i..end]);
-        if p.refusal == refusals::CRC_WRONG {
+        if crc_failed(p) {
             return;
         }
         line(text, p);
@@ -136,50 +145,22 @@ fn lay_lines(text: &mut Text, s: &[u8])
 }
 
 // Whether the lines of any call have room: a line is at most 19 bytes, and its packet at least 10.
+#[tactic(auto, unfolding(crate::specs::Listing::roomy))]
 fn has_room(filled: usize, space: usize, room: usize) -> bool
     ensures { result ≡ roomy filled space room }
 {
-    if !fields::within(filled, space, room) {
-        return false;
-    }
-    fields::within(filled + space, space, room)
+    space <= room / 2 && filled <= room - 2 * space
 }
 
 // Moves the bytes of a block from at on, of the first have, to its front, and gives their number.
 pub fn keep_rest(block: &mut [u8], at: usize, have: usize) -> usize
     ensures { record { at = result; lines = block.new } ≡ kept_of at have block.old }
 {
-    if block.len() < have {
+    if block.len() < have || have < at {
         return 0;
     }
-    let mut n = 0;
-    let mut i = at;
-    while i < have {
-        block[n] = block[i];
-        n += 1;
-        i += 1;
-    }
-    n
-}
-
-// A total with more added; it stops at the largest number.
-fn counted(total: u64, more: u64) -> u64
-    ensures { result ≡ capped (total + more) }
-{
-    if u64::MAX - total < more {
-        return u64::MAX;
-    }
-    total + more
-}
-
-// A mark as a number.
-fn mark(set: bool) -> u64
-    ensures { result ≡ bit set }
-{
-    if set {
-        return 1;
-    }
-    0
+    block.copy_within(at..have, 0);
+    have - at
 }
 
 impl Listing {
@@ -187,94 +168,75 @@ impl Listing {
     pub fn start() -> Listing
         ensures { result ≡ start_listing }
     {
-        let started = Reader::start(0x1000);
-        let reader = started.reader;
         Listing {
-            reader,
+            reader: Reader::start(0x1000).unwrap(),
             packets: 0,
             gaps: 0,
         }
     }
 
-    // The state after a call of the reader.
-    fn after(self, call: Gathered) -> Listing
-        ensures { result ≡ after_of self call }
+    // Counts what a call of the reader gave.
+    #[tactic(auto, unfolding(crate::specs::Listing::capped))]
+    fn count(&mut self, call: Gathered)
+        ensures { self.new ≡ after_of self.old (gathered_told self.old.reader (Ok call)) }
     {
-        let reader = call.reader;
-        let packets = counted(self.packets, call.packets as u64);
-        let marks = call.marks;
-        let gaps = counted(self.gaps, mark(marks.loss));
-        Listing {
-            reader,
-            packets,
-            gaps,
-        }
+        self.packets = self.packets.saturating_add(call.packets as u64);
+        self.gaps = self.gaps.saturating_add(u64::from(call.marks.loss));
     }
 
-    // Takes one transport packet, and appends the lines of what it finishes. gathering and output are the reader's; lines
-    // holds the text so far in its first filled bytes.
+    // Takes one transport packet, appends the lines of what it finishes, and gives how much of the lines is then filled. gathering
+    // and output are the reader's; lines holds the text so far in its first filled bytes. Where the lines may have too little room
+    // nothing is done.
     pub fn step(
-        self,
+        &mut self,
         transport: &[u8],
         gathering: &mut [u8],
         output: &mut [u8],
         lines: &mut [u8],
         filled: usize,
-    ) -> Step
-        ensures { record { answer = result; gathering = gathering.new; output = output.new; lines = lines.new } ≡ step_of self transport.now gathering.old output.old lines.old filled }
+    ) -> Option<usize>
+        ensures { record { answer = step_told self.new filled result; gathering = gathering.new; output = output.new; lines = lines.new } ≡ step_of self.old transport.now gathering.old output.old lines.old filled }
     {
         if !has_room(filled, output.len(), lines.len()) {
-            return Step {
-                full: true, // nothing is done
-                listing: self,
-                filled,
-            };
+            return None;
         }
-        let reader = self.reader;
-        let call = reader.gather(transport, gathering, output);
-        let bytes = call.bytes;
+        // a refused packet gives nothing
+        let call = self
+            .reader
+            .gather(transport, gathering, output)
+            .unwrap_or_default();
+        self.count(call);
         let mut text = Text { lines, at: filled };
-        lay_lines(&mut text, &output[..bytes]);
-        let listing = self.after(call);
-        Step {
-            full: false,
-            listing,
-            filled: text.at,
-        }
+        lay_lines(&mut text, &output[..call.bytes]);
+        Some(text.at)
     }
 
     // Takes the whole pieces of a block, and lays their lines from the front on.
     pub fn feed(
-        self,
+        &mut self,
         block: &[u8],
         gathering: &mut [u8],
         output: &mut [u8],
         lines: &mut [u8],
     ) -> Fed
-        ensures { record { answer = result; gathering = gathering.new; output = output.new; lines = lines.new } ≡ fed_of (pieces block.now) self gathering.old output.old lines.old 0 0 }
+        ensures { record { answer = fed_told self.new result; gathering = gathering.new; output = output.new; lines = lines.new } ≡ fed_of (pieces block.now) self.old gathering.old output.old lines.old 0 0 }
     {
-        let mut listing = self;
-        let mut i = 0;
+        let mut taken = 0;
         let mut filled = 0;
-        while fields::within(i, 188, block.len()) {
-            let end = i + 188;
-            let next = listing.step(&block[i..end], gathering, output, lines, filled);
-            if next.full {
+        for piece in block.chunks_exact(188) {
+            let Some(next) = self.step(piece, gathering, output, lines, filled) else {
                 return Fed {
                     full: true, // before this piece
-                    listing,
-                    taken: i, // it is fed again
+                    taken, // it is fed again
                     filled,
                 };
-            }
-            listing = next.listing;
-            filled = next.filled;
-            i = end;
+            };
+            filled = next;
+            taken += 188;
         }
         Fed {
             full: false, // no whole piece is left
-            listing,
-            taken: i,
+            taken,
             filled,
         }
     }

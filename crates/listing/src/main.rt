@@ -132,10 +132,7 @@ fn main(rt: HostRuntime) -> ExitCode {
     let mut gathering = [0u8; 8202];
     let mut output = [0u8; 8385];
     let mut lines = [0u8; 65536];
-    let mut text = Text {
-        lines: &mut lines,
-        at: 0,
-    };
+    let mut text = Text::new(&mut lines);
     lines::head_line(&mut text);
     let head = text.at;
     if !flush(&rt, &lines, head) {
@@ -153,10 +150,7 @@ fn main(rt: HostRuntime) -> ExitCode {
         return ExitCode::FAILURE;
     }
     let listing = end.listing;
-    let mut text = Text {
-        lines: &mut lines,
-        at: 0,
-    };
+    let mut text = Text::new(&mut lines);
     listing.last_line(&mut text);
     let last = text.at;
     if !flush(&rt, &lines, last) {

@@ -19,7 +19,7 @@ use Rattle.packet.specs.Layout.{header, reserved_type, payload_bytes, total_of, 
 use Rattle.packet.specs.Read.{field, header_of, payload_of, read_checks, no_header, read_of, payload_read}
 use Rattle.packet.specs.Write.{fields_of, front_bytes, packet_bytes, write_checks, write_of}
 use Rattle.packet.specs.declared.Header.{Header}
-use Rattle.packet.specs.declared.Packet.{Packet}
+use Rattle.packet.specs.Read.{Packet}
 
 -- ---- what the two operations show
 

@@ -1,13 +1,13 @@
 -- Reading a T2-MI packet (01: 18, 19, 14, 20, 21, 22 in this order).
-use Rattle.std.specs.Prelude.{ℕ, Bool, not, List, [], ◌∷◌, length, ◌==◌, nat_lt, slice_index}
+use Rattle.std.specs.Prelude.{ℕ, Bool, not, List, [], ◌∷◌, length, ◌==◌, nat_lt, slice_index, Result}
 use Rattle.crc.specs.Crc.{crc_holds}
 use Rattle.fields.specs.Formats.{unpack}
 use Rattle.fields.specs.Parts.{part, number_at}
 use Rattle.refusals.specs.Checks.{Check, ◌when◌}
-use Rattle.refusals.specs.Answers.{answer}
+use Rattle.refusals.specs.Answers.{answer, told}
+use Rattle.refusals.specs.declared.Refusal.{Refusal}
 use Rattle.packet.specs.Layout.{header, reserved_type, payload_bytes, pad_set, size_of}
 use Rattle.packet.specs.declared.Header.{Header}
-use Rattle.packet.specs.declared.Packet.{Packet}
 
 -- ---- the fields of a slice
 
@@ -48,8 +48,17 @@ read_checks s =
 
 -- ---- the answers
 
+-- a header; with a refusal its number, and a header of zeros
+pub record Packet : Type 0 where
+  pub refusal : ℕ
+  pub header : Header
+
 abbrev pub no_header : Header
 no_header = record { kind = 0; count = 0; frame = 0; stream = 0; bits = 0 }
+
+-- the answer that a result of `read` stands for
+abbrev pub packet_told : Result Header Refusal → Packet
+packet_told r = told (λ n. record { refusal = n; header = no_header }) (λ h. record { refusal = 0; header = h }) r
 
 unfoldable pub read_of : List ℕ → Packet
 read_of s =

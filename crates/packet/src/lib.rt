@@ -4,29 +4,22 @@
 ghost use Rattle.std.specs.Prelude.{◌≡◌, drop};
 ghost use Rattle.fields.specs.Formats.{pack, too_wide};
 ghost use Rattle.refusals.specs.Checks.{first};
-ghost use Rattle.refusals.specs.Answers.{code};
+ghost use Rattle.refusals.specs.Answers.{code, bytes_of};
 ghost use Rattle.packet.specs.Layout.{header, reserved_type, count_after, payload_bytes, total_of, pad_set, size_of};
-ghost use Rattle.packet.specs.Read.{header_of, reserved_set, read_checks, read_of, payload_read};
+ghost use Rattle.packet.specs.Read.{header_of, reserved_set, read_checks, read_of, packet_told, payload_read};
 ghost use Rattle.packet.specs.Write.{fields_of, write_checks, write_of};
 ghost use Rattle.packet.specs.Cut.{judge_of, Means, batch_fault};
 
-use refusals::{Refusal, Written};
+use refusals::Refusal;
 
 // The fields of a header, in its order: packet_type, packet_count, superframe_idx, t2mi_stream_id, payload_len.
-#[derive(Clone, Copy)]
+#[derive(Clone, Copy, Debug, PartialEq, Eq)]
 pub struct Header {
     pub kind: u8,
     pub count: u8,
     pub frame: u8,
     pub stream: u8,
     pub bits: u32,
-}
-
-// What reading a packet gives: with a refusal, a header of zeros.
-#[derive(Clone, Copy)]
-pub struct Packet {
-    pub refusal: u32,
-    pub header: Header,
 }
 
 // Why bytes begin with no good packet: they are fewer than theirs needs, or its CRC is wrong.
@@ -65,17 +58,14 @@ pub fn total(bits: u32) -> usize
 pub fn next_count(count: u8) -> u8
     ensures { result ≡ count_after count }
 {
-    std::num::wrapping_add_u8(count, 1)
+    count.wrapping_add(1)
 }
 
 // Whether a type is none of table 1's.
 fn reserved_type(kind: u8) -> bool
     ensures { result ≡ reserved_type kind }
 {
-    match kind {
-        0x00 | 0x01 | 0x02 | 0x10 | 0x11 | 0x12 | 0x20 | 0x21 | 0x30 | 0x31 | 0x32 | 0x33 => false,
-        _ => true,
-    }
+    !matches!(kind, 0x00..=0x02 | 0x10..=0x12 | 0x20..=0x21 | 0x30..=0x33)
 }
 
 // Whether a pad bit is set in the last byte of a payload of so many bits.
@@ -92,6 +82,7 @@ fn pad_set(bits: u32, payload: &[u8]) -> bool
 }
 
 // The length that the packet of s at at gives itself.
+// Here and in judge a place stands beside the slice, and no part is lent: docs/STATEMENTS.md has both for any place.
 pub fn own_length(s: &[u8], at: usize) -> usize
     ensures { result ≡ size_of (drop at s.now) }
 {
@@ -123,13 +114,15 @@ pub fn check_batch(batch: &[u8]) -> Result<(), Refusal>
     ensures { code result ≡ batch_fault batch.now }
 {
     let mut at = 0;
+    // No range: each packet's own length tells where the next begins.
     while at < batch.len() {
         at += judge(batch, at)?;
     }
     Ok(())
 }
 
-// The header's fields of s, zeros where s has no header. Each lies as many bits from the end as the fields behind it take.
+// The header's fields of s, zeros where s has no header. Each lies as many bits from the end as the fields behind it
+// take.
 fn header_of(s: &[u8]) -> Header
     ensures { result ≡ header_of s.now }
 {
@@ -151,64 +144,50 @@ fn reserved_set(s: &[u8]) -> bool
     h / 0x8_0000 % 512 != 0
 }
 
-// The number of the refusal of reading, or 0.
-fn read_refusal(s: &[u8]) -> u32
-    ensures { result ≡ first (read_checks s.now) }
+// Refuses what is no T2-MI packet.
+fn check_read(s: &[u8]) -> Result<(), Refusal>
+    ensures { code result ≡ first (read_checks s.now) }
 {
     if s.len() < 10 {
-        return refusals::SLICE_UNDER_10;
+        return Err(Refusal::SliceUnder10);
     }
     let size = own_length(s, 0);
     if s.len() != size {
-        return refusals::LENGTH_UNLIKE_PAYLOAD_LEN;
+        return Err(Refusal::LengthUnlikePayloadLen);
     }
     if !crc::holds(s) {
-        return refusals::CRC_WRONG;
+        return Err(Refusal::CrcWrong);
     }
     if reserved_set(s) {
-        return refusals::RESERVED_BIT_SET;
+        return Err(Refusal::ReservedBitSet);
     }
     let h = header_of(s);
     if reserved_type(h.kind) {
-        return refusals::RESERVED_TYPE;
+        return Err(Refusal::ReservedType);
     }
     let end = s.len() - 4;
     if pad_set(h.bits, &s[6..end]) {
-        return refusals::PAD_BITS_SET;
+        return Err(Refusal::PadBitsSet);
     }
-    0
+    Ok(())
 }
 
 // Reads a T2-MI packet that fills s.
-pub fn read(s: &[u8]) -> Packet
-    ensures { result ≡ read_of s.now }
+pub fn read(s: &[u8]) -> Result<Header, Refusal>
+    ensures { packet_told result ≡ read_of s.now }
 {
-    let refusal = read_refusal(s);
-    if refusal != 0 {
-        return Packet {
-            refusal,
-            header: Header {
-                kind: 0,
-                count: 0,
-                frame: 0,
-                stream: 0,
-                bits: 0,
-            },
-        };
-    }
-    let header = header_of(s);
-    Packet { refusal: 0, header }
+    check_read(s)?;
+    Ok(header_of(s))
 }
 
 // The payload of the packet that fills s, with its pad, as a part of s; an empty part where the packet is refused.
 pub fn payload(s: &[u8]) -> &[u8]
     ensures { result.now ≡ payload_read s.now }
 {
-    if read_refusal(s) != 0 {
-        return &s[..0];
+    match check_read(s) {
+        Ok(()) => &s[6..s.len() - 4],
+        Err(_) => &s[..0],
     }
-    let crc_at = s.len() - 4;
-    &s[6..crc_at]
 }
 
 // The header's fields as one number, the reserved bits zero.
@@ -224,52 +203,42 @@ fn header_number(h: Header) -> u64
 fn field_too_wide(h: Header) -> bool
     ensures { result ≡ too_wide header (fields_of h) }
 {
-    if 15 < h.frame {
-        return true;
-    }
-    if 7 < h.stream {
-        return true;
-    }
-    65535 < h.bits
+    15 < h.frame || 7 < h.stream || 65535 < h.bits
 }
 
-// The number of the refusal of writing, or 0.
-fn write_refusal(h: Header, payload: &[u8], room: usize) -> u32
-    ensures { result ≡ first (write_checks h payload.now room) }
+// Refuses a header and a payload that make no packet, and too little room.
+fn check_write(h: Header, payload: &[u8], room: usize) -> Result<(), Refusal>
+    ensures { code result ≡ first (write_checks h payload.now room) }
 {
     if reserved_type(h.kind) {
-        return refusals::RESERVED_TYPE;
+        return Err(Refusal::ReservedType);
     }
     if field_too_wide(h) {
-        return refusals::TOO_WIDE_OR_UNFIT_STATE;
+        return Err(Refusal::TooWideOrUnfitState);
     }
     let n = payload_bytes(h.bits);
     if payload.len() != n {
-        return refusals::LENGTH_UNLIKE_PAYLOAD_LEN;
+        return Err(Refusal::LengthUnlikePayloadLen);
     }
     if pad_set(h.bits, payload) {
-        return refusals::PAD_BITS_SET;
+        return Err(Refusal::PadBitsSet);
     }
     let size = total(h.bits);
     if room < size {
-        return refusals::OUTPUT_SHORT;
+        return Err(Refusal::OutputShort);
     }
-    0
+    Ok(())
 }
 
-// Writes a T2-MI packet to the front of out: header, payload with its pad, CRC.
-pub fn write(h: Header, payload: &[u8], out: &mut [u8]) -> Written
-    ensures { record { answer = result; out = out.new } ≡ write_of h payload.now out.old }
+// Writes a T2-MI packet to the front of out: header, payload with its pad, CRC; gives how many bytes it has.
+pub fn write(h: Header, payload: &[u8], out: &mut [u8]) -> Result<u32, Refusal>
+    ensures { record { answer = bytes_of result; out = out.new } ≡ write_of h payload.now out.old }
 {
-    let refusal = write_refusal(h, payload, out.len());
-    if refusal != 0 {
-        return Written { refusal, bytes: 0 };
-    }
+    check_write(h, payload, out.len())?;
     let n = payload.len();
     let front = 6 + n;
     fields::store_at(out, 0, 6, header_number(h));
     fields::copy(out, 6, n, payload, 0);
     crc::seal(out, front);
-    let bytes = (front + 4) as u32;
-    Written { refusal: 0, bytes }
+    Ok((front + 4) as u32)
 }

@@ -3,8 +3,9 @@ use Rattle.std.specs.Prelude.{◌≡◌, Result, ℕ, Bool, true, false, cond, L
 use Rattle.refusals.specs.declared.Refusal.{Refusal}
 use Rattle.functions.specs.declared.Function.{Function}
 use Rattle.functions.specs.declared.Function.TheVariants.{TimeOffset, FrequencyOffset, Power, Private, Cell, Enable, Bandwidth, Passed}
+use Rattle.functions.specs.Read.{function_told}
 use Rattle.sfn.specs.declared.SfnFunction.{SfnFunction}
-use Rattle.packet.specs.declared.Packet.{Packet}
+use Rattle.packet.specs.Read.{Packet}
 use Rattle.packet.specs.Layout.{size_of}
 use Rattle.stamp.specs.Layout.{kind_of}
 use Rattle.stamp.specs.declared.Stamp.{Stamp}
@@ -77,3 +78,7 @@ function_of n (Cell id wait rest) = of_kind n 4 (pos id) (bit_of wait) rest
 function_of n Enable = of_kind n 5 (pos 0) 0 0
 function_of n (Bandwidth v wait) = of_kind n 6 (pos v) (bit_of wait) 0
 function_of n (Passed tag) = record { refusal = n; value = pos 0; kind = 7; tag = tag; wait = 0; reserved = 0 }
+
+-- what a result of `function_read` is laid out as
+abbrev pub ShowsFunction : Result Function Refusal → SfnFunction → Type 0
+ShowsFunction r s = s ≡ function_of (function_told r).refusal (function_told r).function

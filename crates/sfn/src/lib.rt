@@ -5,19 +5,19 @@
 mod reader;
 mod site;
 
-ghost use Rattle.std.specs.Prelude.{◌≡◌, ◌^◌, ◌<◌, length};
+ghost use Rattle.std.specs.Prelude.{◌≡◌, ◌^◌, ◌<◌, cond, eqb, ltb, pos, length, None, Some};
 ghost use Rattle.crc.specs.Crc.{crc_of};
-ghost use Rattle.packet.specs.Read.{read_of};
+ghost use Rattle.packet.specs.Read.{read_of, packet_told};
 ghost use Rattle.packet.specs.Write.{write_of};
 ghost use Rattle.carry.specs.Carry.{carry_of};
 ghost use Rattle.functions.specs.Read.{function_read};
 ghost use Rattle.stamp.specs.Read.{read_of as stamp_read};
 ghost use Rattle.stamp.specs.Write.{write_of as stamp_written};
-ghost use Rattle.sfn.specs.Answers.{packet_of, length_held, kind_number, stamp_of, ShowsStamp, stamp_from, bit_of, of_kind, function_of};
-ghost use Rattle.sfn.specs.Making.{natural_of, offset_made, waiting_made, power_made, made_of, function_written};
+ghost use Rattle.sfn.specs.Answers.{packet_of, length_held, kind_number, stamp_of, ShowsStamp, stamp_from, bit_of, of_kind, function_of, ShowsFunction};
+ghost use Rattle.sfn.specs.Making.{made_of, function_written};
 
 use carry::Carried;
-use functions::Function;
+use functions::{BANDWIDTH, CELL, ENABLE, FREQUENCY_OFFSET, Function, POWER, PRIVATE, TIME_OFFSET};
 use packet::Header;
 pub use reader::{SfnGathered, SfnReader, SfnStarted, sfn_gather, sfn_start};
 use refusals::{Refusal, Written};
@@ -37,6 +37,31 @@ pub struct SfnPacket {
     pub count: u8,
     pub frame: u8,
     pub stream: u8,
+}
+
+impl From<Result<Header, Refusal>> for SfnPacket {
+    ghost from_gives = { λ r p. p ≡ packet_of (packet_told r) };
+
+    fn from(answer: Result<Header, Refusal>) -> SfnPacket {
+        match answer {
+            Ok(h) => SfnPacket {
+                refusal: 0,
+                bits: h.bits,
+                kind: h.kind,
+                count: h.count,
+                frame: h.frame,
+                stream: h.stream,
+            },
+            Err(refusal) => SfnPacket {
+                refusal: refusal.number(),
+                bits: 0,
+                kind: 0,
+                count: 0,
+                frame: 0,
+                stream: 0,
+            },
+        }
+    }
 }
 
 // The register after the bytes.
@@ -60,16 +85,7 @@ pub fn sfn_packet_length(bytes: &[u8]) -> u32
 pub fn sfn_packet_read(slice: &[u8]) -> SfnPacket
     ensures { result ≡ packet_of (read_of slice.now) }
 {
-    let p = packet::read(slice);
-    let h = p.header;
-    SfnPacket {
-        refusal: p.refusal,
-        bits: h.bits,
-        kind: h.kind,
-        count: h.count,
-        frame: h.frame,
-        stream: h.stream,
-    }
+    packet::read(slice).into()
 }
 
 pub fn sfn_packet_write(
@@ -90,7 +106,7 @@ pub fn sfn_packet_write(
         stream,
         bits,
     };
-    packet::write(h, payload, out)
+    packet::write(h, payload, out).into()
 }
 
 // What reading a timestamp payload gives.
@@ -154,12 +170,15 @@ pub fn sfn_stamp_write(bw: u8, seconds: u64, subseconds: u32, utco: u16, out: &m
 pub fn sfn_carry(pid: u16, first_count: u8, batch: &[u8], out: &mut [u8]) -> Carried
     ensures { record { answer = result; out = out.new } ≡ carry_of pid first_count batch.now out.old }
 {
-    carry::carry(pid, first_count, batch, out)
+    carry::carry(pid, first_count, batch, out).into()
 }
+
+// C's kind of a function that is passed through; the others are their tags.
+const PASSED: u8 = 7;
 
 // What reading a function's body gives. kind is 0 to 6 as the tag, and 7 for a function that is passed through.
 #[repr(C)]
-#[derive(Clone, Copy)]
+#[derive(Clone, Copy, Default)]
 pub struct SfnFunction {
     pub refusal: u32,
     pub value: i32,
@@ -187,154 +206,124 @@ fn bit(b: bool) -> u8
     0
 }
 
-// A function that has a tag of the table, by its fields: its kind is its tag.
-fn of_kind(refusal: u32, kind: u8, value: i32, wait: u8, reserved: u8) -> SfnFunction
-    ensures { result ≡ of_kind refusal kind value wait reserved }
+// A function of a kind, with no fields: its tag is its kind.
+fn of_kind(kind: u8) -> SfnFunction
+    ensures { result ≡ of_kind 0 kind (pos 0) 0 0 }
 {
     SfnFunction {
-        refusal,
-        value,
         kind,
         tag: kind,
-        wait,
-        reserved,
+        ..SfnFunction::default()
     }
 }
 
 // A function laid out flat; fields that its kind does not have are 0.
-fn flat(refusal: u32, f: Function) -> SfnFunction
-    ensures { result ≡ function_of refusal f }
-{
-    match f {
-        Function::TimeOffset(t) => of_kind(refusal, 0, t as i32, 0, 0),
-        Function::FrequencyOffset(t) => of_kind(refusal, 1, t, 0, 0),
-        Function::Power(p) => of_kind(refusal, 2, p as i32, 0, 0),
-        Function::Private => of_kind(refusal, 3, 0, 0, 0),
-        Function::Cell { id, wait, reserved } => {
-            let wait = bit(wait);
-            of_kind(refusal, 4, id as i32, wait, reserved)
+impl From<Function> for SfnFunction {
+    ghost from_gives = { λ f s. s ≡ function_of 0 f };
+
+    fn from(f: Function) -> SfnFunction {
+        match f {
+            Function::TimeOffset(t) => SfnFunction {
+                value: i32::from(t),
+                ..of_kind(TIME_OFFSET)
+            },
+            Function::FrequencyOffset(t) => SfnFunction {
+                value: t,
+                ..of_kind(FREQUENCY_OFFSET)
+            },
+            Function::Power(p) => SfnFunction {
+                value: i32::from(p),
+                ..of_kind(POWER)
+            },
+            Function::Private => of_kind(PRIVATE),
+            Function::Cell { id, wait, reserved } => SfnFunction {
+                value: i32::from(id),
+                wait: u8::from(wait),
+                reserved,
+                ..of_kind(CELL)
+            },
+            Function::Enable => of_kind(ENABLE),
+            Function::Bandwidth { value, wait } => SfnFunction {
+                value: i32::from(value),
+                wait: u8::from(wait),
+                ..of_kind(BANDWIDTH)
+            },
+            Function::Passed(tag) => SfnFunction {
+                tag,
+                ..of_kind(PASSED)
+            },
         }
-        Function::Enable => of_kind(refusal, 5, 0, 0, 0),
-        Function::Bandwidth { value, wait } => {
-            let wait = bit(wait);
-            of_kind(refusal, 6, value as i32, wait, 0)
+    }
+}
+
+impl From<Result<Function, Refusal>> for SfnFunction {
+    ghost from_gives = { ShowsFunction };
+
+    fn from(answer: Result<Function, Refusal>) -> SfnFunction {
+        match answer {
+            Ok(f) => f.into(),
+            Err(e) => SfnFunction {
+                refusal: e.number(),
+                ..SfnFunction::default()
+            },
         }
-        Function::Passed(tag) => SfnFunction {
-            refusal,
-            value: 0,
-            kind: 7,
-            tag,
-            wait: 0,
-            reserved: 0,
-        },
     }
 }
 
 pub fn sfn_function_read(tag: u8, body: &[u8]) -> SfnFunction
     ensures { result ≡ function_of (function_read tag body.now).refusal (function_read tag body.now).function }
 {
-    let answer = functions::function_read(tag, body);
-    let f = answer.function;
-    flat(answer.refusal, f)
+    functions::function_read(tag, body).into()
 }
 
-// What the arguments of sfn_function_write make: a function, or none, for which 38 is answered.
-#[derive(Clone, Copy)]
-enum Made {
-    Unfit,
-    Fit(Function),
-}
-
-// A number that is not negative as it is; a negative one as more than any field holds.
-fn natural(value: i32) -> u32
-    ensures { result ≡ natural_of value }
+// A flag from its number.
+fn flag(n: u8) -> Option<bool>
+    ensures { result ≡ cond (ltb 1 n) None (Some (eqb n 1)) }
 {
-    if value < 0 {
-        return 0xffff_ffff;
+    match n {
+        0 => Some(false),
+        1 => Some(true),
+        _ => None,
     }
-    value as u32
 }
 
-// A time offset.
-fn offset(value: i32) -> Made
-    ensures { result ≡ offset_made value }
-{
-    if fields::outside(0x8000, value) {
-        return Made::Unfit;
-    }
-    Made::Fit(Function::TimeOffset(value as i16))
-}
-
-// A function with a wait flag: a cell or a bandwidth of the value v.
-fn waiting(kind: u8, v: u32, wait: u8, reserved: u8) -> Made
-    ensures { result ≡ waiting_made kind v wait reserved }
-{
-    if 1 < wait {
-        return Made::Unfit;
-    }
-    let waits = wait == 1;
-    if kind == 4 {
-        if 65535 < v {
-            return Made::Unfit;
-        }
-        let id = v as u16;
-        return Made::Fit(Function::Cell {
-            id,
-            wait: waits,
-            reserved,
-        });
-    }
-    if kind != 6 {
-        return Made::Unfit;
-    }
-    if 255 < v {
-        return Made::Unfit;
-    }
-    let value = v as u8;
-    Made::Fit(Function::Bandwidth { value, wait: waits })
-}
-
-// A power.
-fn power(v: u32) -> Made
-    ensures { result ≡ power_made v }
-{
-    if 65535 < v {
-        return Made::Unfit;
-    }
-    Made::Fit(Function::Power(v as u16))
-}
-
-// The function that C's arguments make, where n bytes come with them: a tag like its kind, no bytes but for the kinds that
-// carry a body, and values that fit.
-fn function_from(kind: u8, tag: u8, value: i32, wait: u8, reserved: u8, n: usize) -> Made
+// The function that C's arguments make, where n bytes come with them: a tag like its kind, no bytes but for the kinds
+// that carry a body, and values that fit. None, for which 38 is answered, where they make none.
+#[tactic(auto, unfolding(crate::specs::Making::made_of))]
+fn function_from(
+    kind: u8,
+    tag: u8,
+    value: i32,
+    wait: u8,
+    reserved: u8,
+    n: usize,
+) -> Option<Function>
     ensures { result ≡ made_of kind tag value wait reserved n }
 {
-    if kind == 7 {
-        return Made::Fit(Function::Passed(tag));
+    if kind == PASSED {
+        return Some(Function::Passed(tag));
     }
     if tag != kind {
-        return Made::Unfit;
+        return None;
     }
-    if kind == 3 {
-        return Made::Fit(Function::Private);
+    match kind {
+        PRIVATE => Some(Function::Private),
+        ENABLE => Some(Function::Enable),
+        _ if 0 < n => None,
+        TIME_OFFSET => Some(Function::TimeOffset(i16::try_from(value).ok()?)),
+        FREQUENCY_OFFSET => Some(Function::FrequencyOffset(value)),
+        POWER => Some(Function::Power(u16::try_from(value).ok()?)),
+        CELL => Some(Function::Cell {
+            id: u16::try_from(value).ok()?,
+            wait: flag(wait)?,
+            reserved,
+        }),
+        BANDWIDTH => Some(Function::Bandwidth {
+            value: u8::try_from(value).ok()?,
+            wait: flag(wait)?,
+        }),
+        _ => None,
     }
-    if kind == 5 {
-        return Made::Fit(Function::Enable);
-    }
-    if 0 < n {
-        return Made::Unfit;
-    }
-    if kind == 0 {
-        return offset(value);
-    }
-    if kind == 1 {
-        return Made::Fit(Function::FrequencyOffset(value));
-    }
-    let v = natural(value);
-    if kind == 2 {
-        return power(v);
-    }
-    waiting(kind, v, wait, reserved)
 }
 
 pub fn sfn_function_write(
@@ -349,10 +338,7 @@ pub fn sfn_function_write(
     ensures { record { answer = result; out = out.new } ≡ function_written (made_of kind tag value wait reserved (length bytes.now)) bytes.now out.old }
 {
     match function_from(kind, tag, value, wait, reserved, bytes.len()) {
-        Made::Unfit => Written {
-            refusal: refusals::TOO_WIDE_OR_UNFIT_STATE,
-            bytes: 0,
-        },
-        Made::Fit(f) => functions::function_write(f, bytes, out),
+        Some(f) => functions::function_write(f, bytes, out).into(),
+        None => Err(Refusal::TooWideOrUnfitState).into(),
     }
 }

@@ -6,10 +6,10 @@ use mathlib.Core.List.{List, [], ◌∷◌, ◌++◌}
 use Prim.Native.Nat.{ℕ, ◌+◌, ◌^◌, ◌≤◌, ◌<◌}
 use native.Mathlib.Nat.{add-zero}
 use native.Mathlib.Omega.{arith}
-use lib.ListN.{length, take, drop, length-append}
+use lib.ListN.{length, length-append}
 use borrow.Author.Tests.{le-leb}
 use Rattle.fields.specs.Parts.{overlay, inside}
-use Rattle.fields.proofs.PartLaws.{overlay-is, length-overlay, overlay-none, overlay-next, take-front}
+use Rattle.fields.proofs.PartLaws.{length-overlay, overlay-none, overlay-next}
 use Rattle.text.specs.Digits.{digits}
 use Rattle.text.specs.Laid.{word, Filled, laid, appended, filled, Appends}
 use Rattle.text.specs.declared.Text.{Text}
@@ -48,17 +48,6 @@ laid-at p at l r m e = ap (λ (x : Filled). x.at) e
 
 pub laid-lines : (p : List ℕ) (at : ℕ) (l : List ℕ) (r : ℕ) (m : List ℕ) → record { at = r; lines = m } ≡ laid p at l → m ≡ overlay at p l
 laid-lines p at l r m e = ap (λ (x : Filled). x.lines) e
-
--- a text laid at the front is read there
-module _ (p l : List ℕ) (r : ℕ) (m : List ℕ) (e : record { at = r; lines = m } ≡ laid p 0 l) where
-  pub front_read : take r m ≡ p
-  front_read =
-      let z : r ≡ length p = omega (arith, laid-at p 0 l r m e) in
-      rw (z, laid-lines p 0 l r m e) (take-front p l)
-
-  pub front-within : r ≤ length m
-  front-within =
-      rw (laid-lines p 0 l r m e, overlay-is 0 p l, length-append p (drop (0 + length p) l)) (omega (arith, laid-at p 0 l r m e))
 
 -- ---- a text appended to what a buffer is filled with
 

@@ -44,6 +44,15 @@ module _ (pid : ℕ) (t : List ℕ) where
     unfolding look_of
     look-shows = answer-shows (look_checks pid t) nothing_in (stands_in t) (λ (x : Looked). x.refusal) (λ n. refl) refl ∙ first-five
 
+    -- what a caller learns from the result
+    pub look-err : (n : ℕ) → nothing_in n ≡ look_of pid t → n ≡ first (transport_checks pid t)
+    look-err n e = ap (λ (x : Looked). x.refusal) e ∙ look-shows
+
+    pub look-ok : (s : given.Looked) → seen_told s ≡ look_of pid t → (0 ≡ first (transport_checks pid t)) × (seen_told s ≡ stands_in t)
+    look-ok s e =
+        let z : 0 ≡ first (transport_checks pid t) = ap (λ (x : Looked). x.refusal) e ∙ look-shows in
+        (z, e ∙ look-taken (sym z))
+
 -- ---- what is read of a packet
 
 -- field by field

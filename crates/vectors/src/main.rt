@@ -37,53 +37,27 @@ const PADDED: [u8; 12] = [
     0x30, 0xff, 0xf0, 0x07, 0x00, 0x09, 0xff, 0x80, 0xef, 0xfe, 0x6f, 0xf9,
 ];
 
-// The hexadecimal digit of a number below sixteen.
-fn digit(n: u32) -> u8 {
-    let low = (n % 16) as u8;
-    if low < 10 {
-        return b'0' + low;
-    }
-    b'a' + (low - 10)
-}
-
-// A blank, the register as eight digits, and the end of the line.
-fn register_line(r: u32) -> [u8; 10] {
-    [
-        b' ',
-        digit(r / 0x1000_0000),
-        digit(r / 0x100_0000),
-        digit(r / 0x10_0000),
-        digit(r / 0x1_0000),
-        digit(r / 0x1000),
-        digit(r / 0x100),
-        digit(r / 0x10),
-        digit(r),
-        b'\n',
-    ]
-}
-
 // One line: the name, and the CRC of the bytes.
-fn show(rt: &impl Print, name: &[u8], bytes: &[u8]) -> io::Result<()> {
-    let line = register_line(crc::crc(bytes));
-    rt.write_all(name)?;
-    rt.write_all(&line)
+fn show(rt: &impl Print, name: &str, bytes: &[u8]) -> io::Result<()> {
+    let register = crc::crc(bytes);
+    println!(rt; "{name} {register:08x}")
 }
 
 fn main(rt: HostRuntime) -> io::Result<()> {
-    let pat = PAT;
-    let pmt_video = PMT_VIDEO;
-    let pmt_video_audio = PMT_VIDEO_AUDIO;
-    let timestamp = TIMESTAMP;
-    let balancing = BALANCING;
-    let padded = PADDED;
-    show(&rt, b"empty", b"")?;
-    show(&rt, b"zero", &[0x00])?;
-    show(&rt, b"check", b"123456789")?;
-    show(&rt, b"all-ff", &[0xff, 0xff, 0xff, 0xff])?;
-    show(&rt, b"pat", &pat)?;
-    show(&rt, b"pmt-video", &pmt_video)?;
-    show(&rt, b"pmt-video-audio", &pmt_video_audio)?;
-    show(&rt, b"timestamp-packet", &timestamp)?;
-    show(&rt, b"balancing-packet", &balancing)?;
-    show(&rt, b"padded-packet", &padded)
+    let table: [(&str, &[u8]); 10] = [
+        ("empty", b""),
+        ("zero", &[0x00]),
+        ("check", b"123456789"),
+        ("all-ff", &[0xff, 0xff, 0xff, 0xff]),
+        ("pat", &PAT),
+        ("pmt-video", &PMT_VIDEO),
+        ("pmt-video-audio", &PMT_VIDEO_AUDIO),
+        ("timestamp-packet", &TIMESTAMP),
+        ("balancing-packet", &BALANCING),
+        ("padded-packet", &PADDED),
+    ];
+    for (name, bytes) in table {
+        show(&rt, name, bytes)?;
+    }
+    Ok(())
 }

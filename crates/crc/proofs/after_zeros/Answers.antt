@@ -1,16 +1,19 @@
--- `crc::after_zeros` gives what zero digits leave of a register.
-use Prim.Native.Nat.{◌*◌}
-use native.Mathlib.Omega.{arith}
-use Rattle.crc.proofs.TableLaws.{digit-turn, rest-turn, rest_lt, digits-end}
+-- Each turn takes a digit, and after eight none is left.
+use Rattle.std.proofs.Common.{◌∙◌, sym, arith}
+use Rattle.crc.proofs.TableLaws.{no_digit, digit-turn, all_digits}
 use Rattle.crc.proofs.after_zeros.Goals as goal
 
+pub loop-j-init : goal.loop-j-init
+loop-j-init c = no_digit c.args.base c.args.register c.ranges.register.fits
+
 pub loop-j-preserved : goal.loop-j-preserved
-loop-j-preserved c = (
-  omega arith,
-  rest-turn c.loop-j.j c.args.register c.loop-j.rest c.loop-j.invariant.1,
-  digit-turn c.args.base c.loop-j.j c.loop-j.sum c.look-entry.result c.loop-j.rest _ (rest_lt (4 * c.loop-j.j) c.args.register c.loop-j.rest c.ranges.register.fits c.loop-j.invariant.1) c.look-entry.ensures c.loop-j.invariant.2,
-)
+loop-j-preserved c =
+    let a = c.args in
+    let l = c.loop-j in
+    digit-turn a.base a.register c.ranges.register.fits l.j l.sum c.look-sum.result c.look-sum.ensures ∙ l.invariant
 
 pub returns : goal.returns
 returns c =
-    digits-end c.args.base c.loop-j.j c.loop-j.sum c.loop-j.rest c.args.register _ (omega (arith, c.loop-j.invariant.0)) c.ranges.register.fits c.loop-j.invariant.1 c.loop-j.invariant.2
+    let a = c.args in
+    let l = c.loop-j in
+    sym (all_digits a.base a.register c.ranges.register.fits l.j l.sum (omega arith)) ∙ l.invariant

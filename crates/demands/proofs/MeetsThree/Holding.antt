@@ -13,8 +13,7 @@ use Rattle.gather.specs.State.{waits_out_of_step, unfit, repeats}
 use Rattle.gather.specs.Marks.{loss_alone}
 use Rattle.gather.specs.Rules.{Hand, out_of_turn, rule_one}
 use Rattle.gather.specs.Gather.{Outcome, in_hand}
-use Rattle.gather.specs.declared.Last.{Last}
-use Rattle.gather.specs.declared.Last.TheVariants.{Nothing, Count}
+use Rattle.std.specs.Prelude.{Option, None, Some}
 use Rattle.gather.specs.declared.Reader.{Reader}
 use Rattle.gather.proofs.RefusalLaws.{fit-whole}
 use Rattle.gather.proofs.EnterLaws.{rule-lost}
@@ -24,9 +23,9 @@ use Rattle.demands.proofs.MeetsThree.Events.{Since, never, since, missed, loss_a
 use Rattle.demands.proofs.MeetsThree.Reading.{kept, Has}
 
 -- the last count, where c is that of the writer's next transport packet
-abbrev pub LastIs : ℕ → Since → Last → Type 0
-LastIs c never l = l ≡ Nothing
-LastIs c (since g) l = (n : ℕ) × (l ≡ Count n) × (n < 16) × ((n + 1 + g) % 16 ≡ c)
+abbrev pub LastIs : ℕ → Since → Option ℕ → Type 0
+LastIs c never l = l ≡ None
+LastIs c (since g) l = (n : ℕ) × (l ≡ Some n) × (n < 16) × ((n + 1 + g) % 16 ≡ c)
 
 -- what is in hand: nothing before the first; where none is lost since the last, what came of the packet under way if all of it
 -- did; after a loss it does not matter, since rule 1 drops it
@@ -93,7 +92,7 @@ tied-lost (since j) v h =
 
 -- the state and the buffer that a call gives
 pub record Leaves (pid c : ℕ) (ok : Bool) (u : List ℕ) (o : Outcome) : Type 0 where
-  pub next : o.answer.reader ≡ record { pid = pid; last = Count c; in_step = ok; waiting = length (kept ok u) }
+  pub next : o.answer.reader ≡ record { pid = pid; last = Some c; in_step = ok; waiting = length (kept ok u) }
   pub room : 8202 ≤ length o.gathering
   pub holds : take (length (kept ok u)) o.gathering ≡ kept ok u
 
@@ -107,7 +106,7 @@ tied-came {pid} {c} {ok} {u} x good k n =
     rw x.next
     (record {
       own = refl;
-      fit = fit-whole (record { pid = pid; last = Count c; in_step = ok; waiting = length (kept ok u) })
+      fit = fit-whole (record { pid = pid; last = Some c; in_step = ok; waiting = length (kept ok u) })
           (record { inside = good; counted = le-ltb 15 c (omega arith); few = n; idle = idle ok u });
       room = x.room;
       last = (c, refl, k, omega arith);

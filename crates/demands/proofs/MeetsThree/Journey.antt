@@ -26,7 +26,7 @@ use Rattle.gather.specs.Calls.{calls_of, lent, handed_all}
 use Rattle.gather.specs.Rules.{rule_one}
 use Rattle.gather.specs.declared.Marks.{Marks}
 use Rattle.gather.specs.declared.Reader.{Reader}
-use Rattle.gather.specs.declared.Started.{Started}
+use Rattle.gather.specs.State.{Started}
 use Rattle.gather.proofs.ReadingLaws.{whole-short}
 use Rattle.gather.proofs.StateLaws.{start-taken, fresh-fit}
 use Rattle.demands.specs.Library.{ours}

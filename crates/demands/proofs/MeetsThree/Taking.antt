@@ -20,9 +20,9 @@ use Rattle.gather.specs.Marks.{loss_alone}
 use Rattle.gather.specs.Rules.{Brought, brought_by, Hand, rule_one, rules_on}
 use Rattle.gather.specs.Gather.{Outcome, in_hand, answer_of, refused_of, result_of, taken_of, gather_of}
 use Rattle.gather.specs.Calls.{handed_by}
-use Rattle.gather.specs.declared.Last.TheVariants.{Count}
+use Rattle.std.specs.Prelude.{Some}
 use Rattle.gather.specs.declared.Reader.{Reader}
-use Rattle.gather.specs.declared.Gathered.{Gathered}
+use Rattle.gather.specs.Gather.{Gathered}
 use Rattle.gather.proofs.RefusalLaws.{passed}
 use Rattle.gather.proofs.GatherLaws.{gather-refused, gather-taken}
 use Rattle.gather.proofs.HandedLaws.{taken-cut, taken-holds}
@@ -50,13 +50,13 @@ module _ (s : Reader) (t g o : List ℕ) (pid c : ℕ) (own : s.pid ≡ pid) (co
   told : {A : Type 0} (f : Gathered → A) → f a ≡ f (answer_of s.pid (brought_by t).count h)
   told f = ap f (taken-answer s t g o)
 
-  next-state : (ok : Bool) (u : List ℕ) → Has ok u h → a.reader ≡ record { pid = pid; last = Count c; in_step = ok; waiting = length (kept ok u) }
+  next-state : (ok : Bool) (u : List ℕ) → Has ok u h → a.reader ≡ record { pid = pid; last = Some c; in_step = ok; waiting = length (kept ok u) }
   next-state ok u x =
       told (λ (y : Gathered). y.reader)
-      ∙ ap (λ (n : ℕ). record { pid = n; last = Count (brought_by t).count; in_step = h.step; waiting = length h.waiting }) own
-      ∙ ap (λ (n : ℕ). record { pid = pid; last = Count n; in_step = h.step; waiting = length h.waiting }) count
-      ∙ ap (λ (b : Bool). record { pid = pid; last = Count c; in_step = b; waiting = length h.waiting }) x.step
-      ∙ ap (λ (l : List ℕ). record { pid = pid; last = Count c; in_step = ok; waiting = length l }) x.waiting
+      ∙ ap (λ (n : ℕ). record { pid = n; last = Some (brought_by t).count; in_step = h.step; waiting = length h.waiting }) own
+      ∙ ap (λ (n : ℕ). record { pid = pid; last = Some n; in_step = h.step; waiting = length h.waiting }) count
+      ∙ ap (λ (b : Bool). record { pid = pid; last = Some c; in_step = b; waiting = length h.waiting }) x.step
+      ∙ ap (λ (l : List ℕ). record { pid = pid; last = Some c; in_step = ok; waiting = length l }) x.waiting
 
   leaves-so : (ok : Bool) (u : List ℕ) → Has ok u h → Leaves pid c ok u (taken_of s t g o)
   leaves-so ok u x =

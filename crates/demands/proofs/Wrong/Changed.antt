@@ -17,7 +17,7 @@ use Rattle.refusals.specs.Answers.{Wrote}
 use Rattle.packet.specs.Layout.{reserved_type, pad_set, size_of}
 use Rattle.packet.specs.Read as packet
 use Rattle.packet.specs.declared.Header.{Header}
-use Rattle.packet.specs.declared.Packet.{Packet}
+use Rattle.packet.specs.Read.{Packet}
 use Rattle.functions.specs.Tags.{body_long, body_wrong, bandwidth_reserved}
 use Rattle.functions.specs.Read as function
 use Rattle.functions.specs.declared.Function.{Function}

@@ -12,7 +12,7 @@ use Rattle.fields.specs.Numbers.{number, bytes}
 use Rattle.fields.specs.Parts.{part, overlay, number_at}
 use Rattle.refusals.specs.Answers.{answer, Wrote, written}
 use Rattle.packet.specs.Read as packet
-use Rattle.packet.specs.declared.Packet.{Packet}
+use Rattle.packet.specs.Read.{Packet}
 use Rattle.functions.specs.Tags.{body_long, body_wrong, value_reserved, bandwidth_reserved}
 use Rattle.functions.specs.Function.{body_of}
 use Rattle.functions.specs.Write as function_writing
@@ -25,7 +25,7 @@ use Rattle.addressing.specs.Payload.{PayloadRead}
 use Rattle.transport.specs.Tests.{pid_outside}
 use Rattle.gather.specs.State.{fresh, unfit, gather_checks}
 use Rattle.gather.specs.Gather as gathering
-use Rattle.gather.specs.declared.Last.TheVariants.{Nothing}
+use Rattle.std.specs.Prelude.{None}
 use Rattle.gather.specs.declared.Reader.{Reader}
 use Rattle.demands.specs.Demand1.{Demand1}
 use Rattle.demands.proofs.Wrong.Changed.{reading, bodied, addressed, walked, gathered_by}
@@ -63,7 +63,7 @@ walk-refuses-all d = let e : ◌≡◌ {A = ℕ} 27 0 = (d.walk [] 1 0).numbered
 
 -- a good state, in step with one byte waiting; an empty slice is refused as 1
 abbrev waits : Reader
-waits = record { pid = 32; last = Nothing; in_step = true; waiting = 1 }
+waits = record { pid = 32; last = None; in_step = true; waiting = 1 }
 
 -- another answer in place of each refusal
 abbrev refusing : (Reader → List ℕ → List ℕ → ℕ → gathering.Outcome) → Reader → List ℕ → List ℕ → List ℕ → gathering.Outcome

@@ -30,8 +30,7 @@ use Rattle.gather.specs.Gather as gathering
 use Rattle.gather.specs.Gather.{joiners, taken_of, gather_of, refused_of}
 use Rattle.gather.specs.declared.Marks.{Marks}
 use Rattle.gather.specs.Calls.{calls_by, lent}
-use Rattle.gather.specs.declared.Last.{Last}
-use Rattle.gather.specs.declared.Last.TheVariants.{Nothing, Count}
+use Rattle.std.specs.Prelude.{Option, None, Some}
 use Rattle.gather.specs.declared.Reader.{Reader}
 use Rattle.demands.specs.Library.{Library}
 use Rattle.demands.specs.Route.{Item, writers, again, Route, nothing, due, arrives, loss_marks, inputs}
@@ -98,13 +97,13 @@ writes_nothing d =
 
 -- ---- one that gathers in its first call and then only advances the count
 
-abbrev first_only : Last → Reader → List ℕ → List ℕ → List ℕ → gathering.Outcome
-first_only Nothing s t g o = gather_of s t g o
-first_only (Count n) s t g o =
+abbrev first_only : Option ℕ → Reader → List ℕ → List ℕ → List ℕ → gathering.Outcome
+first_only None s t g o = gather_of s t g o
+first_only (Some n) s t g o =
     record {
       answer = record {
         refusal = 0;
-        reader = record { pid = s.pid; last = Count (transport.count_of t); in_step = s.in_step; waiting = s.waiting };
+        reader = record { pid = s.pid; last = Some (transport.count_of t); in_step = s.in_step; waiting = s.waiting };
         bytes = 0;
         packets = 0;
         marks = no_marks;
@@ -139,7 +138,7 @@ invents-counts d =
 -- ---- one that does not look at the count: what comes again is handed out again
 
 abbrev pub deaf : Reader → List ℕ → List ℕ → List ℕ → gathering.Outcome
-deaf s t g o = gather_of (record { pid = s.pid; last = Nothing; in_step = s.in_step; waiting = s.waiting }) t g o
+deaf s t g o = gather_of (record { pid = s.pid; last = None; in_step = s.in_step; waiting = s.waiting }) t g o
 
 pub hands-out-again : Demand3 (gathered_by deaf) → ⊥
 unfolding gather_of taken_of gather_checks transport_checks unfit pid_outside field_long pointer_beyond transport.header_field transport.payload_at transport.carried_at transport.carried_by brought_by rule_one joining up_to_start from_start rules_on joiners judge_of cut_by cut joined size_of crc.crc_holds crc.crc_of crc.run crc.feed crc.bit_at crc.shift overlay answer pack unpack number bytes batch_fault numbered carry_checks carry_of loads_of loads_by gone_of head_bytes transport_of start_of transports_in

@@ -21,7 +21,7 @@ use Rattle.packet.specs.Cut.{cut, cut_by, batch_fault, joined}
 use Rattle.packet.specs.Read as packet
 use Rattle.packet.specs.Write as packet_writing
 use Rattle.packet.specs.declared.Header.{Header}
-use Rattle.packet.specs.declared.Packet.{Packet}
+use Rattle.packet.specs.Read.{Packet}
 use Rattle.stamp.specs.Layout as stamp
 use Rattle.stamp.specs.Read as stamp_reading
 use Rattle.stamp.specs.Read.{StampRead}
@@ -51,7 +51,7 @@ use Rattle.gather.specs.Marks.{no_marks}
 use Rattle.gather.specs.Rules.{brought_by, rule_one, up_to_start, from_start, rules_on}
 use Rattle.gather.specs.Gather as gathering
 use Rattle.gather.specs.declared.Reader.{Reader}
-use Rattle.gather.specs.declared.Started.{Started}
+use Rattle.gather.specs.State.{Started}
 use Rattle.demands.specs.Library.{Library, ours}
 use Rattle.demands.specs.Demand2.{Demand2}
 use Rattle.demands.specs.Demand2.Packet.{Packets}

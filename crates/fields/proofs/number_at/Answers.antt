@@ -4,15 +4,18 @@ use Rattle.std.specs.List.{fold}
 use borrow.Author.Tests.{leb-true}
 use Rattle.fields.proofs.NumberLaws.{taken_in, number_of_fold}
 use Rattle.fields.proofs.PartLaws.{length_part, part_bytes, number-at}
+use Rattle.fields.specs.Numbers.{Bytes}
 use Rattle.fields.specs.Parts.{part}
 use Rattle.fields.proofs.number_at.Goals as goal
 
 pub returns : goal.returns
 unfolding part
 returns c =
-    let s = c.args.s.now in
-    let room : c.args.at + c.args.n ≤ length s = leb-true _ _ (sym c.within.ensures ∙ c.if-not-within.false) in
-    let folded : c.fold.result ≡ fold taken_in 0 (part c.args.at c.args.n s) = search rules in
+    let a = c.args in
+    let s = a.s.now in
+    let bytes : Bytes s = λ i. (c.type_inv.s i).fits in
+    let room : a.at + a.n ≤ length s = leb-true _ _ (sym c.within.ensures ∙ c.if-not-within.false) in
+    let folded : c.fold.result ≡ fold taken_in 0 (part a.at a.n s) = search rules in
     folded
-    ∙ number_of_fold _ (part_bytes c.args.at c.args.n s (λ i. (c.type_inv.s i).fits)) (omega (arith, length_part c.args.at c.args.n s))
-    ∙ sym (number-at c.args.at c.args.n s room c.if-n-gt8.false)
+    ∙ number_of_fold _ (part_bytes a.at a.n s bytes) (omega (arith, length_part a.at a.n s))
+    ∙ sym (number-at a.at a.n s room c.if-n-gt8.false)

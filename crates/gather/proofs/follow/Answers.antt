@@ -1,51 +1,57 @@
 -- `gather::follow` meets its contract.
-use lib.ListN.{length}
-use mathlib.Core.Path.{refl, ap, ◌∙◌}
+use lib.ListN.{length, take, length-drop}
+use lib.Seq.{length-take-le}
+use mathlib.Core.Path.{◌≡◌, refl, ap, ◌∙◌}
 use Rattle.std.specs.Prelude.{Err}
-use Prim.Native.Nat.{◌+◌, ◌≤◌}
+use Prim.Native.Nat.{◌+◌, ◌-◌, ◌≤◌}
 use native.Mathlib.Omega.{arith}
+use Rattle.fields.proofs.PartLaws.{length-overlay}
+use Rattle.gather.proofs.JoinLaws.{laid_over}
 use Rattle.gather.proofs.FollowLaws.{followed-short, followed-bad, lies, followed-good}
 use Rattle.gather.proofs.follow.Goals as goal
 use Rattle.gather.proofs.follow.Goals.{In-Ok}
 
--- a good packet lies in t
+-- a good packet lies in what is left
 good : (u : In-Ok)
-    → (10 ≤ u.in-Ok.size) × (u.loop-size.a + u.in-Ok.size ≤ length u.args.t.now)
+    → (10 ≤ u.in-Ok.size) × (u.in-Ok.size ≤ length u.loop-size.rest.now)
 good u =
     let l = u.loop-size in
-    lies u.args.t.now l.a _ u.judge.ensures l.held l.output _ u.in-Ok.is
+    lies l.rest.now _ u.judge.ensures l.held l.output _ u.in-Ok.is
 
 pub returns-in-Err-Short : goal.returns-in-Err-Short
 returns-in-Err-Short c =
     let l = c.loop-size in
-    let a = c.args in
-    followed-short a.t.now l.a _ c.judge.ensures l.held l.output (c.in-Err-Short.is ∙ ap Err c.in-Err-Short.field-0-is) _ refl _ c.waits.ensures ∙ l.invariant.5
+    followed-short l.rest.now _ c.judge.ensures l.held l.output (c.in-Err-Short.is ∙ ap Err c.in-Err-Short.field-0-is) _ c.waits.ensures ∙ l.invariant.4
 
 pub returns-in-Err-Bad : goal.returns-in-Err-Bad
 returns-in-Err-Bad c =
     let l = c.loop-size in
-    let a = c.args in
-    followed-bad a.t.now l.a _ c.judge.ensures l.held l.output (c.in-Err-Bad.is ∙ ap Err c.in-Err-Bad.field-0-is) _ c.crc_fails.ensures ∙ l.invariant.5
+    followed-bad l.rest.now _ c.judge.ensures l.held l.output (c.in-Err-Bad.is ∙ ap Err c.in-Err-Bad.field-0-is) _ c.crc_fails.ensures ∙ l.invariant.4
 
 pub hands_out-held-requires : goal.hands_out-held-requires
 hands_out-held-requires c = omega (arith, good (goal.at.hands_out-held-requires c).In-Ok)
 
-pub overflow_add-a : goal.overflow_add-a
-overflow_add-a c = omega (arith, good (goal.at.overflow_add-a c).In-Ok)
+pub split_at-requires : goal.split_at-requires
+split_at-requires c = omega (arith, good c)
 
 pub loop-size-smaller : goal.loop-size-smaller
-loop-size-smaller c = omega (arith, good (goal.at.loop-size-smaller c).In-Ok)
+loop-size-smaller c = omega (arith, length-drop c.in-Ok.size c.loop-size.rest.now, good (goal.at.loop-size-smaller c).In-Ok)
 
 pub loop-size-preserved : goal.loop-size-preserved
 loop-size-preserved c =
     let l = c.loop-size in
-    let a = c.args in
+    let n = c.in-Ok.size in
     let r = c.hands_out-held.ensures in
-    let g = good (goal.at.loop-size-preserved c).In-Ok in (
-      omega (arith, g),
-      rw r (omega (arith, g, c.copy.auto)),
-      omega (arith, c.copy.auto),
-      rw r (omega (arith, g)),
-      rw r (omega (arith, g)),
-      followed-good a.t.now l.a _ c.judge.ensures l.held l.output _ c.in-Ok.is (omega (arith, g)) _ _ r c.copy.ensures ∙ l.invariant.5,
+    let g = good (goal.at.loop-size-preserved c).In-Ok in
+    let k = length-drop n l.rest.now in
+    let p : length (take n l.rest.now) ≡ n = length-take-le n l.rest.now (omega (arith, g)) in
+    let m : length (take n l.rest.now) ≡ l.held.bytes + n - l.held.bytes = omega (arith, p) in
+    let after = laid_over _ l.output (take n l.rest.now) _ (c.copy_from_slice.ensures.after ∙ c.split_at.ensures.front) m l.held.bytes in
+    let long = length-overlay l.held.bytes (take n l.rest.now) l.output (omega (arith, g)) in
+    rw (c.split_at.ensures.back, r, after) (
+      omega (arith, g, k, long),
+      omega (arith, long),
+      omega (arith, g, k),
+      omega (arith, g, k),
+      followed-good l.rest.now _ c.judge.ensures l.held l.output _ c.in-Ok.is (omega (arith, g)) _ _ refl refl ∙ l.invariant.4,
     )

@@ -1,28 +1,17 @@
-use lib.ListN.{get_or, set, length-set}
-use mathlib.Core.Path.{refl, ap, ◌∙◌}
-use Prim.Native.Nat.{ℕ, ◌-◌}
-use native.Mathlib.Omega.{arith}
-use Rattle.fields.specs.Parts.{part}
-use Rattle.lines.proofs.FeedLaws.{kept-none, kept_more, kept-all, kept-at-first}
+-- `lines::keep_rest` meets its contract: nothing is there to keep, or the part is moved.
+use Rattle.lines.proofs.FeedLaws.{kept-none, kept-nothing, kept-all}
 use Rattle.lines.proofs.keep_rest.Goals as goal
+use Rattle.lines.proofs.keep_rest.Goals.{then-block-have-via-then-block-have, then-block-have-via-else-block-have+then-have-at}
 
 pub returns-then-block-have : goal.returns-then-block-have
-returns-then-block-have c = let a = c.args in kept-none a.at a.have a.block.now c.if-block-have.true
-
-pub loop-i-init : goal.loop-i-init
-loop-i-init c =
+returns-then-block-have c =
     let a = c.args in
-    (omega arith, omega arith, omega arith, refl, kept-at-first (part a.at (a.have - a.at) a.block.now) a.block.now)
-
-pub loop-i-preserved : goal.loop-i-preserved
-loop-i-preserved c =
-    let l = c.loop-i in
-    let a = c.args in
-    let next = kept_more a.at a.have a.block.now (omega arith) l.n l.block (omega arith) l.invariant.4 in
-    (omega arith, omega arith, omega arith, simp length-set (omega arith), ap (λ (j : ℕ). set l.block l.n (get_or l.block j 0)) l.invariant.0 ∙ next)
+    elim c.then-block-have.branch [
+      | then-block-have-via-then-block-have w ↦ kept-none a.at a.have a.block.now w.if-block-have.true
+      | then-block-have-via-else-block-have+then-have-at w ↦ kept-nothing a.at a.have a.block.now w.if-block-have.false w.if-have-at.true
+    ]
 
 pub returns : goal.returns
 returns c =
-    let l = c.loop-i in
     let a = c.args in
-    kept-all a.at a.have a.block.now (omega arith) l.n l.block (omega arith) l.invariant.4
+    kept-all a.at a.have a.block.now c.if-block-have.false _ c.copy_within.ensures.after

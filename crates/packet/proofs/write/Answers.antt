@@ -8,18 +8,18 @@ use Rattle.fields.specs.Parts.{overlay, stored_at, copied_to}
 use Rattle.fields.proofs.NumberLaws.{length-bytes}
 use Rattle.fields.proofs.LaidLaws.{copied_next}
 use Rattle.fields.proofs.PartLaws.{stored-at}
-use Rattle.refusals.proofs.AnswerLaws.{written-number}
+use Rattle.refusals.proofs.AnswerLaws.{written-exit}
 use Rattle.packet.proofs.FieldLaws.{Writable, writable}
 use Rattle.packet.proofs.RoundTrips.{length_front, length-packet, write-accepted}
 use Rattle.packet.specs.Layout.{header}
 use Rattle.packet.specs.Write.{fields_of, front_bytes, packet_bytes, write_of}
 use Rattle.packet.specs.declared.Header.{Header}
 use Rattle.packet.proofs.write.Goals as goal
-use Rattle.packet.proofs.write.Goals.{After-store_at, Else-refusal-ne0}
+use Rattle.packet.proofs.write.Goals.{After-store_at, In_ok-check_write}
 
 -- past the test the fields and the payload are written
-well : (c : Else-refusal-ne0) → Writable c.args.h c.args.payload.now c.args.out.now
-well c = writable _ _ _ (sym c.write_refusal-refusal.ensures ∙ c.if-refusal-ne0.false)
+well : (c : In_ok-check_write) → Writable c.args.h c.args.payload.now c.args.out.now
+well c = writable _ _ _ (sym c.in_ok-check_write.ensures)
 
 bits_fit : {h : Header} {payload out : List ℕ} → Writable h payload out → h.bits < 65536
 bits_fit w = w.fit.1.1.1.1.1.0
@@ -47,22 +47,22 @@ module _ (h : Header) (payload out : List ℕ) (room : 10 + length payload ≤ l
       e2 ∙ ap (λ (o : List ℕ). copied_to 6 (length payload) payload 0 o) (e1 ∙ ap (λ (n : ℕ). stored_at 0 6 n out) e0) ∙ laid in
       e3 ∙ ap (sealed_at front) two ∙ sealed-next (front_bytes h payload) out front (length_front h payload) (omega arith)
 
-pub returns-then-refusal-ne0 : goal.returns-then-refusal-ne0
+pub returns-in_err-check_write : goal.returns-in_err-check_write
 unfolding write_of
-returns-then-refusal-ne0 c = written-number _ _ _ _ c.write_refusal-refusal.ensures c.if-refusal-ne0.true
+returns-in_err-check_write c = written-exit _ _ _ _ _ c.from_residual.ensures.1 c.in_err-check_write.ensures
 
-pub overflow_cast-bytes : goal.overflow_cast-bytes
-overflow_cast-bytes c =
-    let w = well (goal.at.overflow_cast-bytes c).Else-refusal-ne0 in
+pub overflow_cast-result : goal.overflow_cast-result
+overflow_cast-result c =
+    let w = well (goal.at.overflow_cast-result c).In_ok-check_write in
     omega (arith, w.size, bits_fit w)
 
 pub returns : goal.returns
 returns c =
     let a = c.args in
-    let w = well (goal.at.returns c).Else-refusal-ne0 in
+    let w = well (goal.at.returns c).In_ok-check_write in
     let p = a.payload.now in
     let o = a.out.now in
-    sym (write-accepted a.h p o (sym c.write_refusal-refusal.ensures ∙ c.if-refusal-ne0.false)
+    sym (write-accepted a.h p o (sym c.in_ok-check_write.ensures)
     ∙ ap₂ (λ (n : ℕ) (l : List ℕ). record { answer = record { refusal = 0; bytes = n }; out = l })
     (length-packet a.h p ∙ omega arith)
     (sym (steps a.h p o (omega (arith, w.room, w.size)) _ _ _ _ c.header_number.ensures c.store_at.ensures c.copy.ensures c.seal.ensures)))

@@ -1,106 +1,142 @@
 -- `gather::Reader::gather` meets its contract: past the refusals each stage's contract speaks of what the one before it left,
 -- and the lengths that were judged give each its room.
-use lib.ListN.{length}
+use lib.ListN.{length, take, drop, length-drop}
 use mathlib.Core.Path.{◌≡◌, sym, ap, ◌∙◌}
 use mathlib.Core.Bool.{true}
-use Prim.Native.Nat.{ℕ, ◌+◌, ◌≤◌, ◌<◌}
+use mathlib.Core.List.{List}
+use Prim.Native.Nat.{ℕ, ◌+◌, ◌-◌, ◌≤◌, ◌<◌}
 use native.Mathlib.Omega.{arith}
+use Rattle.std.specs.Prelude.{Some, is_some}
 use Rattle.transport.specs.Header.{count_of, starts, payload_at, pointer_of}
-use Rattle.transport.specs.Look.{stands_in}
-use Rattle.transport.specs.declared.Looked.{Looked}
-use Rattle.transport.proofs.LookLaws.{look-taken}
+use Rattle.transport.specs.Look.{Looked}
 use Rattle.gather.specs.Rules.{rule_one}
 use Rattle.gather.specs.Gather.{in_hand}
-use Rattle.gather.specs.Phases.{numbers}
-use Rattle.gather.specs.declared.Marks.{Marks}
+use Rattle.gather.specs.Phases.{numbers, Ready}
 use Rattle.gather.proofs.RefusalLaws.{Passed, passed, fit_parts, payload-from, payload-in, start-in}
 use Rattle.gather.proofs.EnterLaws.{Stands, rule-stands}
-use Rattle.gather.proofs.GatherLaws.{gather-refused, gather-taken, taken_start, taken-plain}
+use Rattle.gather.proofs.StartLaws.{from_on}
+use Rattle.gather.proofs.GatherLaws.{gather-exit, gather-taken, taken_start, taken-plain}
 use Rattle.gather.proofs.Reader.gather.Goals as goal
-use Rattle.gather.proofs.Reader.gather.Goals.{After-enter-entered, Else-refusal-ne0, Start, Then-seen}
-
-abbrev start : Else-refusal-ne0 → Start
-start k = (goal.at.Else-refusal-ne0 k).Start
+use Rattle.gather.proofs.Reader.gather.Goals.{After-enter-entered, In_ok-seen, In-Some, in-Some, in-None}
 
 -- nothing was refused
-free : (k : Else-refusal-ne0) → Passed (start k).args.self (start k).args.transport.now (length (start k).args.gathering.now) (length (start k).args.output.now)
-free k = passed _ _ _ _ (sym k.refusal-refusal.ensures ∙ k.if-refusal-ne0.false)
+free : (k : In_ok-seen) → Passed k.args.self.now k.args.transport.now (length k.args.gathering.now) (length k.args.output.now)
+free k = passed _ _ _ _ (sym k.in_ok-seen.ensures.0)
 
-few : (k : Else-refusal-ne0) → (start k).args.self.waiting ≤ 8201
-few k = (fit_parts (start k).args.self (free k).fit).few
+few : (k : In_ok-seen) → k.args.self.now.waiting ≤ 8201
+few k = (fit_parts k.args.self.now (free k).fit).few
 
--- so what was found is what stands in it
-seen : (k : Else-refusal-ne0) → k.look-seen.result ≡ stands_in (start k).args.transport.now
-seen k =
-    let a = (start k).args in
-    k.look-seen.ensures ∙ look-taken a.self.pid a.transport.now (free k).whole (free k).carriage
+-- what was found is what stands in it
+count-is : (k : In_ok-seen) → k.in_ok-seen.seen.count ≡ count_of k.args.transport.now
+count-is k = ap (λ (x : Looked). x.count) k.in_ok-seen.ensures.1
 
-count-is : (k : Else-refusal-ne0) → k.look-seen.result.count ≡ count_of (start k).args.transport.now
-count-is k = ap (λ (x : Looked). x.count) (seen k)
+payload-is : (k : In_ok-seen) → k.in_ok-seen.seen.payload ≡ payload_at k.args.transport.now
+payload-is k = ap (λ (x : Looked). x.payload) k.in_ok-seen.ensures.1
 
-begins-is : (k : Else-refusal-ne0) → k.look-seen.result.begins ≡ starts (start k).args.transport.now
-begins-is k = ap (λ (x : Looked). x.begins) (seen k)
+begins-is : (k : In_ok-seen) → is_some k.in_ok-seen.seen.pointer ≡ starts k.args.transport.now
+begins-is k = ap (λ (x : Looked). x.begins) k.in_ok-seen.ensures.1
 
-payload-is : (k : Else-refusal-ne0) → k.look-seen.result.payload ≡ payload_at (start k).args.transport.now
-payload-is k = ap (λ (x : Looked). x.payload) (seen k)
-
-pointer_is : (k : Else-refusal-ne0) → starts (start k).args.transport.now ≡ true → k.look-seen.result.pointer ≡ pointer_of (start k).args.transport.now
-pointer_is k b = ap (λ (x : Looked). x.pointer) (seen k) ∙ rw b
-
--- what rule 1 left
-entered : (m : After-enter-entered) → Stands m.enter-entered.result (start (goal.at.After-enter-entered m).Else-refusal-ne0).args.gathering.now
-    (rule_one (start (goal.at.After-enter-entered m).Else-refusal-ne0).args.self.last (count_of (start (goal.at.After-enter-entered m).Else-refusal-ne0).args.transport.now) (in_hand (start (goal.at.After-enter-entered m).Else-refusal-ne0).args.self (start (goal.at.After-enter-entered m).Else-refusal-ne0).args.gathering.now))
-entered m =
-    let s = start (goal.at.After-enter-entered m).Else-refusal-ne0 in
-    rw (m.enter-entered.ensures ∙ ap (λ (n : ℕ). numbers (rule_one s.args.self.last n (in_hand s.args.self s.args.gathering.now))) (count-is (goal.at.After-enter-entered m).Else-refusal-ne0))
-    (rule-stands s.args.self (count_of s.args.transport.now) s.args.gathering.now (few (goal.at.After-enter-entered m).Else-refusal-ne0) (free (goal.at.After-enter-entered m).Else-refusal-ne0).roomy)
+pointer_is : (k : In_ok-seen) (p : ℕ) → k.in_ok-seen.seen.pointer ≡ Some p → p ≡ pointer_of k.args.transport.now
+pointer_is k p h =
+    let b : true ≡ starts k.args.transport.now = rw h at (begins-is k) in
+    rw (h, ← b) at (ap (λ (x : Looked). x.pointer) k.in_ok-seen.ensures.1)
 
 -- where the payload begins
-place : (k : Else-refusal-ne0) → (4 ≤ k.look-seen.result.payload) × (k.look-seen.result.payload < 188)
+place : (k : In_ok-seen) → (4 ≤ k.in_ok-seen.seen.payload) × (k.in_ok-seen.seen.payload < 188)
 place k =
-    let t = (start k).args.transport.now in
+    let t = k.args.transport.now in
     omega (arith, payload-is k, payload-from t, payload-in t (free k).field)
 
 -- with a start, the byte pointed at lies in the packet
-begun : (q : Then-seen) → starts (start (goal.at.Then-seen q).Else-refusal-ne0).args.transport.now ≡ true
-begun q = sym (begins-is (goal.at.Then-seen q).Else-refusal-ne0) ∙ q.if-seen.true
+begun : (k : In_ok-seen) (p : ℕ) → k.in_ok-seen.seen.pointer ≡ Some p → starts k.args.transport.now ≡ true
+begun k p h = sym (rw h at (begins-is k))
 
-pointed : (q : Then-seen) → q.look-seen.result.payload + 1 + q.look-seen.result.pointer ≤ length (start (goal.at.Then-seen q).Else-refusal-ne0).args.transport.now
+pointed : (q : In-Some) → q.in_ok-seen.seen.payload + 1 + q.in-Some.pointer < length q.args.transport.now
 pointed q =
-    omega (arith, payload-is (goal.at.Then-seen q).Else-refusal-ne0, pointer_is (goal.at.Then-seen q).Else-refusal-ne0 (begun q), (free (goal.at.Then-seen q).Else-refusal-ne0).whole, start-in (start (goal.at.Then-seen q).Else-refusal-ne0).args.transport.now (begun q) (free (goal.at.Then-seen q).Else-refusal-ne0).aims)
+    let k = (goal.at.In-Some q).In_ok-seen in
+    omega (arith, payload-is k, pointer_is k q.in-Some.pointer q.in-Some.is, (free k).whole, start-in q.args.transport.now (begun k q.in-Some.pointer q.in-Some.is) (free k).aims)
 
-pub returns-then-refusal-ne0 : goal.returns-then-refusal-ne0
-returns-then-refusal-ne0 c =
+-- what lies from a place on
+onward : (n : ℕ) (t : List ℕ) → length (take (length t - n) (drop n t)) ≡ length t - n
+onward n t = ap length (from_on n t) ∙ length-drop n t
+
+-- what rule 1 left, and the room
+entered : (m : After-enter-entered) → Stands m.enter-entered.result m.args.gathering.now (rule_one m.args.self.now.last (count_of m.args.transport.now) (in_hand m.args.self.now m.args.gathering.now))
+entered m =
+    let k = (goal.at.After-enter-entered m).In_ok-seen in
+    let a = m.args in
+    rw (m.enter-entered.ensures ∙ ap (λ (n : ℕ). numbers (rule_one a.self.now.last n (in_hand a.self.now a.gathering.now))) (count-is k))
+    (rule-stands a.self.now (count_of a.transport.now) a.gathering.now (few k) (free k).roomy)
+
+ready : (m : After-enter-entered) → Ready m.enter-entered.result m.args.gathering.now m.args.output.now
+ready m =
+    let k = (goal.at.After-enter-entered m).In_ok-seen in
+    record { entered = (entered m).entered; roomy = (free k).roomy; spacious = (free k).spacious }
+
+pub returns-in_err-seen : goal.returns-in_err-seen
+returns-in_err-seen c =
     let a = c.args in
-    ap (λ (m : Marks). record { answer = record { refusal = c.refusal-refusal.result; reader = a.self; bytes = 0; packets = 0; marks = m }; gathering = a.gathering.now; output = a.output.now }) c.none-marks.ensures
-    ∙ gather-refused a.self a.transport.now a.gathering.now a.output.now _ c.refusal-refusal.ensures c.if-refusal-ne0.true
+    gather-exit a.self.now a.transport.now a.gathering.now a.output.now c.from_residual.result _ c.from_residual.ensures.1 c.in_err-seen.ensures.0
 
 pub enter-entered-requires : goal.enter-entered-requires
-enter-entered-requires c = omega (arith, few c, (free c).roomy)
+enter-entered-requires c =
+    let k = (goal.at.enter-entered-requires c).In_ok-seen in
+    omega (arith, few k, (free k).roomy)
 
-pub overflow_add-at : goal.overflow_add-at
-overflow_add-at c = omega (arith, place (goal.at.overflow_add-at c).Else-refusal-ne0)
+pub overflow_add-seen : goal.overflow_add-seen
+overflow_add-seen c = omega (arith, place (goal.at.overflow_add-seen c).In_ok-seen)
+
+pub slice_bounds-split_at-count : goal.slice_bounds-split_at-count
+slice_bounds-split_at-count c = omega (arith, pointed (goal.at.slice_bounds-split_at-count c).In-Some)
+
+pub slice_bounds-split_at-start : goal.slice_bounds-split_at-start
+slice_bounds-split_at-start c = omega (arith, pointed (goal.at.slice_bounds-split_at-start c).In-Some)
+
+pub split_at-requires : goal.split_at-requires
+split_at-requires c =
+    let q = (goal.at.split_at-requires c).In-Some in
+    omega (arith, onward (c.in_ok-seen.seen.payload + 1) c.args.transport.now, pointed q)
 
 pub with_start-held-requires : goal.with_start-held-requires
 with_start-held-requires c =
-    ((entered (goal.at.with_start-held-requires c).After-enter-entered).entered, (free (goal.at.with_start-held-requires c).Else-refusal-ne0).roomy, (free (goal.at.with_start-held-requires c).Else-refusal-ne0).spacious, omega (arith, place (goal.at.with_start-held-requires c).Else-refusal-ne0), pointed (goal.at.with_start-held-requires c).Then-seen, (free (goal.at.with_start-held-requires c).Else-refusal-ne0).whole)
+    let q = (goal.at.with_start-held-requires c).In-Some in
+    let k = (goal.at.In-Some q).In_ok-seen in
+    let n = onward (c.in_ok-seen.seen.payload + 1) c.args.transport.now in
+    let f = c.split_at.ensures.front_len in
+    let b = c.split_at.ensures.back_len in
+    (ready (goal.at.with_start-held-requires c).After-enter-entered, omega (arith, f, pointed q, (free k).whole), omega (arith, b, n, pointed q, place k, (free k).whole))
 
-pub returns-then-seen : goal.returns-then-seen
-returns-then-seen c =
-    let a = (start (goal.at.returns-then-seen c).Else-refusal-ne0).args in
-    taken_start a.self a.transport.now a.gathering.now a.output.now c.enter-entered.result (entered (goal.at.returns-then-seen c).After-enter-entered) _ _ _ _ _ _ (payload-is (goal.at.returns-then-seen c).Else-refusal-ne0) (count-is (goal.at.returns-then-seen c).Else-refusal-ne0) c.answer.ensures (begun (goal.at.returns-then-seen c).Then-seen) _ (pointer_is (goal.at.returns-then-seen c).Else-refusal-ne0 (begun (goal.at.returns-then-seen c).Then-seen)) c.with_start-held.ensures
-    ∙ sym (gather-taken a.self a.transport.now a.gathering.now a.output.now (sym c.refusal-refusal.ensures ∙ c.if-refusal-ne0.false))
+pub slice_bounds-lead-count : goal.slice_bounds-lead-count
+slice_bounds-lead-count c =
+    let k = (goal.at.slice_bounds-lead-count c).In_ok-seen in
+    omega (arith, place k, (free k).whole)
 
-pub overflow_sub-at : goal.overflow_sub-at
-overflow_sub-at c = omega (arith, place (goal.at.overflow_sub-at c).Else-refusal-ne0)
+pub slice_bounds-lead-start : goal.slice_bounds-lead-start
+slice_bounds-lead-start c =
+    let k = (goal.at.slice_bounds-lead-start c).In_ok-seen in
+    omega (arith, place k, (free k).whole)
 
 pub lead-held-requires : goal.lead-held-requires
 lead-held-requires c =
-    ((entered (goal.at.lead-held-requires c).After-enter-entered).entered, (free (goal.at.lead-held-requires c).Else-refusal-ne0).roomy, omega (arith, (free (goal.at.lead-held-requires c).Else-refusal-ne0).spacious), omega (arith, place (goal.at.lead-held-requires c).Else-refusal-ne0, (free (goal.at.lead-held-requires c).Else-refusal-ne0).whole), (free (goal.at.lead-held-requires c).Else-refusal-ne0).whole)
+    let k = (goal.at.lead-held-requires c).In_ok-seen in
+    (ready (goal.at.lead-held-requires c).After-enter-entered, omega (arith, onward c.in_ok-seen.seen.payload c.args.transport.now, (free k).whole))
 
 pub returns : goal.returns
 returns c =
-    let a = (start (goal.at.returns c).Else-refusal-ne0).args in
-    taken-plain a.self a.transport.now a.gathering.now a.output.now c.enter-entered.result (entered (goal.at.returns c).After-enter-entered) _ _ _ _ _ _ (payload-is (goal.at.returns c).Else-refusal-ne0) (count-is (goal.at.returns c).Else-refusal-ne0) c.answer-2.ensures (sym (begins-is (goal.at.returns c).Else-refusal-ne0) ∙ c.if-seen.false) (free (goal.at.returns c).Else-refusal-ne0).whole (omega (arith, (entered (goal.at.returns c).After-enter-entered).entered.few, (free (goal.at.returns c).Else-refusal-ne0).roomy))
-    c.lead-held.ensures
-    ∙ sym (gather-taken a.self a.transport.now a.gathering.now a.output.now (sym c.refusal-refusal.ensures ∙ c.if-refusal-ne0.false))
+    let k = (goal.at.returns c).In_ok-seen in
+    let m = (goal.at.returns c).After-enter-entered in
+    let a = c.args in
+    let n = c.in_ok-seen.seen.payload in
+    elim c.match-seen.branch [
+      | in-Some w ↦
+          (let p = w.in-Some.pointer in
+          let there = from_on (n + 1) a.transport.now in
+          taken_start a.self.now a.transport.now a.gathering.now a.output.now c.enter-entered.result (entered m) c.match-seen.held c.match-seen.gathering c.match-seen.output _ n c.in_ok-seen.seen.count (payload-is k) (count-is k) c.settle.ensures
+          (begun k p w.in-Some.is) p (pointer_is k p w.in-Some.is) _ _ (w.split_at.ensures.front ∙ ap (take p) there) (w.split_at.ensures.back ∙ ap (drop p) there)
+          ((λ i. record { held = w.held-is i; gathering = w.gathering-is i; output = w.output-is i }) ∙ w.with_start-held.ensures))
+      | in-None w ↦
+          taken-plain a.self.now a.transport.now a.gathering.now a.output.now c.enter-entered.result (entered m) c.match-seen.held c.match-seen.gathering c.match-seen.output _ n c.in_ok-seen.seen.count (payload-is k) (count-is k) c.settle.ensures
+          (sym (rw w.in-None.is at (begins-is k))) (omega (arith, few k, (ready m).entered.few, (free k).roomy)) _ (from_on n a.transport.now)
+          ((λ i. record { held = w.held-is i; gathering = w.gathering-is i; output = w.output-is i }) ∙ w.lead-held.ensures)
+    ]
+    ∙ sym (gather-taken a.self.now a.transport.now a.gathering.now a.output.now (sym c.in_ok-seen.ensures.0))

@@ -1,36 +1,33 @@
-use borrow.Author.Rules.{rules}
-use borrow.Author.Tests.{leb-true}
-use lib.ListN.{length}
-use mathlib.Core.Path.{sym, ◌∙◌}
-use Prim.Native.Nat.{◌+◌, ◌≤◌}
+-- `lines::Listing::feed` meets its contract: a piece that stops it, a piece that goes, and none left.
+use mathlib.Core.Path.{refl, ap, ◌∙◌}
+use native.Mathlib.Omega.{arith}
+use lib.ListN.{length, length-append}
 use Rattle.lines.proofs.FeedLaws.{feed-ends, feed-stops, feed-goes}
 use Rattle.lines.proofs.Listing.feed.Goals as goal
-use Rattle.lines.proofs.Listing.feed.Goals.{In-loop-end}
 
--- the piece lies in the block
-inside : (k : In-loop-end) → k.loop-end.i + 188 ≤ length k.args.block.now
-inside k = leb-true _ _ (sym k.within.ensures ∙ k.loop-end-test.true)
+pub returns-in_default : goal.returns-in_default
+returns-in_default c =
+    let l = c.loop-piece in
+    let s = c.in-Some.ensures.steps.1 in
+    feed-stops l.piece-iterator.rest.now l.self l.gathering l.output l.lines l.taken l.filled c.in-Some.piece.now _ s.0 (s.1 ∙ l.invariant.0) _ c.in_default.ensures refl
+    ∙ l.invariant.5
 
-pub returns-then-next : goal.returns-then-next
-returns-then-next c =
-    let l = c.loop-end in
-    let a = c.args in
-    feed-stops a.block.now l.i l.listing l.gathering l.output l.lines l.filled (inside (goal.at.returns-then-next c).In-loop-end) _ c.step-next.ensures c.if-next.true
-    ∙ l.invariant.3
-
-pub loop-end-preserved : goal.loop-end-preserved
-loop-end-preserved c =
-    let l = c.loop-end in
-    let a = c.args in (
-      search rules,
-      search rules,
-      search rules,
-      feed-goes a.block.now l.i l.listing l.gathering l.output l.lines l.filled (inside (goal.at.loop-end-preserved c).In-loop-end) _ c.step-next.ensures c.if-next.false ∙ l.invariant.3,
+pub loop-piece-preserved : goal.loop-piece-preserved
+loop-piece-preserved c =
+    let l = c.loop-piece in
+    let steps = c.in-Some.ensures.steps in
+    let s = steps.1 in
+    let n = ap length s.0 ∙ length-append c.in-Some.piece.now c.next.new.self.rest.now in (
+      steps.0 ∙ l.invariant.0,
+      omega (arith, n, s.1),
+      omega (arith, c.step.auto),
+      omega (arith, c.step.auto),
+      omega (arith, c.step.auto),
+      feed-goes l.piece-iterator.rest.now l.self l.gathering l.output l.lines l.taken l.filled c.in-Some.piece.now _ s.0 (s.1 ∙ l.invariant.0) _ c.in-Some-step.ensures refl ∙ l.invariant.5,
     )
 
 pub returns : goal.returns
 returns c =
-    let l = c.loop-end in
-    let a = c.args in
-    feed-ends a.block.now l.i l.listing l.gathering l.output l.lines l.filled (sym c.within.ensures ∙ c.loop-end-test.false)
-    ∙ l.invariant.3
+    let l = c.loop-piece in
+    feed-ends l.piece-iterator.rest.now l.self l.gathering l.output l.lines l.taken l.filled (omega (arith, c.in-None.ensures.steps.1.0, l.invariant.0))
+    ∙ l.invariant.5
