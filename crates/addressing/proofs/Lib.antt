@@ -8,4 +8,3 @@ pub mod StepLaws
 pub mod CursorLaws
 pub mod GroupLaws
 pub mod RowLaws
-pub mod ExitLaws

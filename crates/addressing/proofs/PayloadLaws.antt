@@ -1,6 +1,6 @@
 -- What the two refusal lists of a payload say once they are passed, and what reading and writing then give.
 -- Assumes nothing.
-use mathlib.Core.Path.{◌≡◌, refl, ◌∙◌}
+use mathlib.Core.Path.{◌≡◌, refl, sym, ◌∙◌}
 use mathlib.Core.List.{List, []}
 use Prim.Native.Nat.{ℕ, suc, ◌+◌, ◌≤◌}
 use native.Mathlib.Omega.{arith}
@@ -31,6 +31,9 @@ readable own p h =
       reserved = eqb-true _ _ (not-false _ n.1.0);
       good = not_found _ n.1.1.0;
     }
+
+pub read_long : (own : ℕ) (p : List ℕ) → 0 ≡ first (payload_checks own p) → 2 ≤ length p
+read_long own p h = omega (arith, (readable own p (sym h)).size)
 
 -- ---- what is known of data that is written
 

@@ -9,9 +9,6 @@ use lib.ListN.{length}
 use denote.Ref.{Bor}
 use borrow.Author.Tests.{eqb-true, eqb-false, eq-eqb, ne_eqb}
 use Rattle.fields.proofs.Cases.{cases}
-use Rattle.refusals.specs.Refusals.{number_of}
-use Rattle.refusals.specs.declared.Refusal.{Refusal}
-use Rattle.refusals.proofs.NumberLaws.{number-not-0}
 use Rattle.addressing.proofs.WalkLaws.{walk-shows, walk_refused, walk-ended, walk-all}
 use Rattle.addressing.specs.Data.{house, fault_of}
 use Rattle.addressing.specs.Steps.{place_after, fresh_walk, moved_to, found_by, stepped_of, steps_by, Stepped}
@@ -50,17 +47,6 @@ module _ (w : Walk) where
   -- so another step is refused in the same way
   pub refused-again : ((found_by w).refusal ≡ 0 → ⊥) → stepped_of (stepped_of w).walk ≡ stepped_of w
   refused-again h = ap (λ (s : Stepped). stepped_of s.walk) (step-refused h)
-
--- ---- a step, from what `walk` answered
-
-module _ (w : Walk) (x : Walked) where
-  pub taken-given : x.refusal ≡ 0 → x ≡ found_by w → record { answer = x; walk = moved_to w x.next } ≡ stepped_of w
-  taken-given z e = λ i. record { answer = e i; walk = moved_to w ((sym (after-answer x w.at z) ∙ ap (λ (y : Walked). place_after y w.at) e) i) }
-
-pub taken_refused : (w : Walk) (e : Refusal) → refused (number_of e) ≡ found_by w → record { answer = refused (number_of e); walk = w } ≡ stepped_of w
-taken_refused w r e =
-    let x = refused (number_of r) in
-    λ i. record { answer = e i; walk = moved_to w ((sym (after-refusal x w.at (number-not-0 r)) ∙ ap (λ (y : Walked). place_after y w.at) e) i) }
 
 -- ---- a whole walk by steps
 

@@ -88,6 +88,7 @@ fn function_cut(l: &[u8], own: u8) -> bool
 }
 
 // Refuses the function at the front of l where it has a fault.
+#[tactic(auto, unfolding(crate::specs::Data::function_checks))]
 fn check_function(l: &[u8], own: u8) -> Result<(), Refusal>
     ensures { code result ≡ first (function_checks own l.now) }
 {
@@ -105,6 +106,7 @@ fn check_function(l: &[u8], own: u8) -> Result<(), Refusal>
 }
 
 // The header of the function at the front of l.
+#[tactic(auto, unfolding(crate::specs::Cursor::function_header, refusals::specs::Answers::answer))]
 fn function_header(l: &[u8], own: u8) -> Result<Option<Header>, Refusal>
     ensures { header_told result ≡ function_header own l.now }
 {
@@ -122,6 +124,7 @@ fn group_cut(l: &[u8]) -> bool
 }
 
 // The header of the group at the front of l.
+#[tactic(auto, unfolding(crate::specs::Cursor::group_header, crate::specs::Data::group_checks, refusals::specs::Answers::answer))]
 fn group_header(l: &[u8]) -> Result<Option<Header>, Refusal>
     ensures { header_told result ≡ group_header l.now }
 {
@@ -134,6 +137,7 @@ fn group_header(l: &[u8]) -> Result<Option<Header>, Refusal>
 }
 
 // The header at a cursor: a function's in a loop, a group's at a loop's end, and none at the data's end.
+#[tactic(auto, unfolding(crate::specs::Cursor::header_at, fields::specs::Parts::part))]
 fn header_at(data: &[u8], own: u8, c: Cursor) -> Result<Option<Header>, Refusal>
     requires { (c.at ≤ c.end) × (c.end ≤ length «data».now) }
     ensures { header_told result ≡ header_at own «data».now c }
@@ -239,6 +243,7 @@ fn pass(data: &[u8], own: u8, transmitter: u16, place: usize) -> Result<Seen, Fa
 }
 
 // The first fault of addressing data in byte order.
+#[tactic(auto, unfolding(crate::specs::Cursor::pass_of))]
 pub fn check(data: &[u8]) -> Result<(), Fault>
     ensures { fault_told result ≡ fault_of house «data».now }
 {
@@ -254,6 +259,7 @@ fn size_wrong(payload: &[u8]) -> bool
 }
 
 // Refuses what is no addressing payload.
+#[tactic(auto, unfolding(crate::specs::Payload::payload_checks))]
 fn check_payload(payload: &[u8]) -> Result<(), Refusal>
     ensures { code result ≡ first (payload_checks house payload.now) }
 {
@@ -268,6 +274,7 @@ fn check_payload(payload: &[u8]) -> Result<(), Refusal>
 }
 
 // Reads an addressing payload: how many bytes of data it has.
+#[tactic(auto, using(crate::proofs::PayloadLaws::read_long), unfolding(crate::specs::Payload::payload_of, refusals::specs::Answers::answer))]
 pub fn payload_read(payload: &[u8]) -> Result<usize, Refusal>
     ensures { payload_told result ≡ payload_of house payload.now }
 {
@@ -276,6 +283,7 @@ pub fn payload_read(payload: &[u8]) -> Result<usize, Refusal>
 }
 
 // The data of an addressing payload as a part of it; an empty part where the payload is refused.
+#[tactic(auto, using(crate::proofs::PayloadLaws::read_long), unfolding(crate::specs::Payload::data_read, refusals::specs::Answers::answer))]
 pub fn payload_data(payload: &[u8]) -> &[u8]
     ensures { result.now ≡ data_read house payload.now }
 {
@@ -286,6 +294,7 @@ pub fn payload_data(payload: &[u8]) -> &[u8]
 }
 
 // Refuses data that no payload holds, and too little room.
+#[tactic(auto, unfolding(crate::specs::Payload::write_checks))]
 fn check_write(data: &[u8], room: usize) -> Result<(), Refusal>
     ensures { code result ≡ first (write_checks house «data».now room) }
 {
@@ -300,6 +309,7 @@ fn check_write(data: &[u8], room: usize) -> Result<(), Refusal>
 }
 
 // Writes an addressing payload to the front of out: a reserved byte of zero, the length, and the data; gives how many bytes it has.
+#[tactic(auto, unfolding(crate::specs::Payload::write_of, refusals::specs::Answers::written, refusals::specs::Answers::answer))]
 pub fn payload_write(data: &[u8], out: &mut [u8]) -> Result<u32, Refusal>
     ensures { record { answer = bytes_of result; out = out.new } ≡ write_of house «data».now out.old }
 {
@@ -311,6 +321,7 @@ pub fn payload_write(data: &[u8], out: &mut [u8]) -> Result<u32, Refusal>
 }
 
 // The walk for one transmitter: what it finds from a place on, and where to go on from. Callers have it by `walk_from`.
+#[tactic(auto, using(crate::proofs::CursorLaws::pass_walks), unfolding(crate::specs::Walk::walk_of, crate::specs::Walk::walk_checks, refusals::specs::Answers::answer))]
 fn walk(data: &[u8], transmitter: u16, place: usize) -> Result<Walked, Refusal>
     ensures { walked_told result ≡ walk_of house «data».now transmitter place }
 {

@@ -30,6 +30,7 @@ impl<'a> Walk<'a> {
 
     // One step: the function that the walk finds at its place, or none at the data's end. The walk is then at the next place; with a
     // refusal it stays where it was (01, "hands back the old state").
+    #[tactic(auto, unfolding(crate::specs::Steps::place_after))]
     pub fn step(&mut self) -> Result<Option<Given>, Refusal>
         ensures step { record { answer = step_told self.new.at result; walk = self.new } ≡ stepped_of self.old }
         ensures refused { OnErr result (self.new ≡ self.old) }

@@ -2,30 +2,28 @@
 -- Assumes nothing.
 use mathlib.Core.Path.{◌≡◌, refl, sym, ap, ap₂, ◌∙◌}
 use mathlib.Core.List.{List, [], ◌∷◌, ◌++◌, append_assoc}
-use Prim.Native.Nat.{ℕ, zero, suc, ◌+◌, ◌-◌, ◌/◌, ◌%◌, ◌≤◌, ◌<◌}
-use native.Mathlib.Nat.{zero-add}
+use Prim.Native.Nat.{ℕ, zero, suc, ◌+◌, ◌-◌, ◌≤◌, ◌<◌}
+use native.Mathlib.Nat.{zero-add, add-zero}
 use native.Mathlib.Omega.{arith}
-use lib.ListN.{length, drop, replicate, length-append, length-replicate, replicate-append-replicate}
-use Rattle.fields.specs.Formats.{pack, unpack}
+use borrow.Rule.Slice.PartMut.{put_mid}
+use lib.Seq.{drop-drop}
+use lib.ListN.{length, take, drop, set, replicate, length-append, length-replicate, replicate-append-replicate}
+use Rattle.fields.specs.Formats.{pack}
 use Rattle.fields.specs.Numbers.{bytes}
 use Rattle.fields.specs.Parts.{overlay, stored_at}
 use Rattle.fields.proofs.NumberLaws.{length-bytes}
-use Rattle.fields.proofs.PartLaws.{overlay-is, overlay-none, overlay-next, overlay-whole, length-overlay, stored-at}
+use Rattle.fields.proofs.PartLaws.{overlay-is, overlay-none, overlay-next, overlay-whole, set-overlay, stored-at}
 use Rattle.transport.specs.Header.{header}
-use Rattle.transport.specs.Load.{adaptation, control_for, head_bytes}
+use Rattle.transport.specs.Load.{Load, plain, start, adaptation, control_for, head_bytes, transport_of}
 use Rattle.transport.proofs.LoadLaws.{length-adaptation}
-use Rattle.carry.specs.Building.{blank, field_head}
+use Rattle.std.specs.Prelude.{Option, Some, None}
+use Rattle.carry.specs.OnBytes.{load_with}
+use Rattle.carry.specs.Building.{blank, field_head, Held}
 
--- ---- a byte stored
+-- ---- a byte set
 
-pub stored-byte : (at v : ℕ) (l : List ℕ) → v < 256 → at < length l → stored_at at 1 v l ≡ overlay at (v ∷ []) l
-unfolding bytes unpack
-stored-byte at v l h k =
-    stored-at at 1 v l (omega arith) (omega arith)
-    ∙ ap (λ (x : ℕ). overlay at (x ∷ []) l) (one v h)
-  where
-    one : (x : ℕ) → x < 256 → ◌≡◌ {A = ℕ} (x / 1 % 256) x
-    one x g = omega arith
+pub set-byte : (at v : ℕ) (l : List ℕ) → at < length l → set l at v ≡ overlay at (v ∷ []) l
+set-byte at v l h = ap₂ (λ (k : List ℕ) (n : ℕ). set k n v) (sym (overlay-none at l)) (sym (add-zero at)) ∙ set-overlay at [] l v (omega arith)
 
 -- ---- 0xFF over 0xFF
 
@@ -73,20 +71,17 @@ length-field (suc (suc n)) = omega arith
 pub field-none : (t : List ℕ) → overlay 4 (field_head 0) t ≡ t
 field-none t = overlay-none 4 t
 
-pub field-one : (t : List ℕ) → length t ≡ 188 → stored_at 4 1 (1 - 1) t ≡ overlay 4 (field_head 1) t
-field-one t e = stored-byte 4 0 t (omega arith) (omega arith)
+pub field-one : (t : List ℕ) → length t ≡ 188 → set t 4 (1 - 1) ≡ overlay 4 (field_head 1) t
+field-one t e = set-byte 4 0 t (omega arith)
 
-pub field-more : (room : ℕ) (t : List ℕ) → length t ≡ 188 → 2 ≤ room → room ≤ 183
-    → stored_at 5 1 0 (stored_at 4 1 (room - 1) t) ≡ overlay 4 (field_head room) t
-field-more zero t e a b = absurd (omega arith)
-field-more (suc zero) t e a b = absurd (omega arith)
-field-more (suc (suc n)) t e a b =
+pub field-more : (room : ℕ) (t : List ℕ) → length t ≡ 188 → 2 ≤ room → set (set t 4 (room - 1)) 5 0 ≡ overlay 4 (field_head room) t
+field-more zero t e a = absurd (omega arith)
+field-more (suc zero) t e a = absurd (omega arith)
+field-more (suc (suc n)) t e a =
     let v : suc (suc n) - 1 ≡ suc n = omega arith in
-    let l : length (overlay 4 (suc n ∷ []) t) ≡ length t = length-overlay 4 (suc n ∷ []) t (omega arith) in
-    ap (λ (k : ℕ). stored_at 5 1 0 (stored_at 4 1 k t)) v
-    ∙ ap (stored_at 5 1 0) (stored-byte 4 (suc n) t (omega arith) (omega arith))
-    ∙ stored-byte 5 0 (overlay 4 (suc n ∷ []) t) (omega arith) (omega arith)
-    ∙ overlay-next 4 (suc n ∷ []) (0x00 ∷ []) t 5 refl (omega arith)
+    ap (λ (k : ℕ). set (set t 4 k) 5 0) v
+    ∙ ap (λ (l : List ℕ). set l 5 0) (set-byte 4 (suc n) t (omega arith))
+    ∙ set-overlay 4 (suc n ∷ []) t 0 (omega arith)
 
 -- ---- the header, and then the field
 
@@ -112,3 +107,44 @@ module _ (pid begins count room : ℕ) (h : room ≤ 183) where
   behind-head d e =
       overlay-next 0 (head_bytes pid begins count room) d blank (4 + room) (omega (arith, length-head)) (omega arith)
       ∙ overlay-whole (head_bytes pid begins count room ++ d) blank (length-append (head_bytes pid begins count room) d ∙ omega (arith, length-head))
+
+-- ---- the whole packet
+
+-- a packet whose bytes are still to come
+abbrev pub Ready : ℕ → ℕ → Load → List ℕ → Type 0
+Ready pid count (plain d) t = t ≡ overlay 0 (head_bytes pid 0 count (184 - length d)) blank
+Ready pid count (start n d) t = t ≡ set (overlay 0 (head_bytes pid 1 count (183 - length d)) blank) (187 - length d) n
+
+-- what is written from an index on lies over what was there
+pub mid-laid : (a k : ℕ) (xs ys : List ℕ) → length ys ≡ k → put_mid a k xs ys ≡ overlay a ys xs
+mid-laid a k xs ys e =
+    ap (λ (l : List ℕ). take a xs ++ (ys ++ l)) (drop-drop k a xs ∙ ap (λ (n : ℕ). drop (a + n) xs) (sym e)) ∙ sym (overlay-is a ys xs)
+
+module _ (pid count : ℕ) (t d : List ℕ) where
+  plain-built : 1 ≤ length d → length d ≤ 184 → Ready pid count (plain d) t → overlay (188 - length d) d t ≡ transport_of pid count (plain d)
+  unfolding transport_of
+  plain-built a b r =
+      let k : 188 - length d ≡ 4 + (184 - length d) = omega arith in
+      ap (λ (n : ℕ). overlay n d t) k
+      ∙ ap (overlay (4 + (184 - length d)) d) r
+      ∙ behind-head pid 0 count (184 - length d) (omega arith) d (omega arith)
+
+  start-built : (n : ℕ) → length d ≤ 183 → Ready pid count (start n d) t → overlay (188 - length d) d t ≡ transport_of pid count (start n d)
+  unfolding transport_of
+  start-built n b r =
+      let h : List ℕ = head_bytes pid 1 count (183 - length d) in
+      let lh : length (head_bytes pid 1 count (183 - length d)) ≡ 4 + (183 - length d) = length-head pid 1 count (183 - length d) (omega arith) in
+      let k : 187 - length d ≡ 0 + length (head_bytes pid 1 count (183 - length d)) = omega (arith, lh) in
+      let lp : length (head_bytes pid 1 count (183 - length d) ++ (n ∷ [])) ≡ 188 - length d = length-append (head_bytes pid 1 count (183 - length d)) (n ∷ []) ∙ omega (arith, lh) in
+      ap (overlay (188 - length d) d) (r ∙ ap (λ (j : ℕ). set (overlay 0 h blank) j n) k ∙ set-overlay 0 h blank n (omega (arith, lh)))
+      ∙ overlay-next 0 (h ++ (n ∷ [])) d blank (188 - length d) (zero-add (length (h ++ (n ∷ []))) ∙ lp) (omega arith)
+      ∙ overlay-whole ((h ++ (n ∷ [])) ++ d) blank (length-append (h ++ (n ∷ [])) d ∙ omega (arith, lp))
+      ∙ append_assoc h (n ∷ []) d
+
+-- what is written last is the load's bytes
+pub built : (pid count : ℕ) (o : Option ℕ) (d : List ℕ) → Held (load_with o d) → (t : List ℕ) → length t ≡ 188 → Ready pid count (load_with o d) t
+    → put_mid (188 - length d) (length t - (188 - length d)) t d ≡ transport_of pid count (load_with o d)
+built pid count None d h t e r =
+    mid-laid (188 - length d) (length t - (188 - length d)) t d (omega (arith, h.0, h.1, e)) ∙ plain-built pid count t d h.0 h.1 r
+built pid count (Some n) d h t e r =
+    mid-laid (188 - length d) (length t - (188 - length d)) t d (omega (arith, h, e)) ∙ start-built pid count t d n h r

@@ -1,6 +1,6 @@
 -- The loads over the batch's bytes are the loads over its packets, and how they unfold, transport packet by transport packet.
 -- Assumes nothing.
-use mathlib.Core.Path.{◌≡◌, refl, sym, ap, ◌∙◌}
+use mathlib.Core.Path.{◌≡◌, refl, sym, ap, ◌∙◌, subst}
 use mathlib.Core.Bool.{true, false}
 use mathlib.Core.List.{List, [], ◌∷◌, ◌++◌, append_assoc, append-nil}
 use Prim.Native.Nat.{ℕ, zero, suc, ◌+◌, ◌-◌, ◌≤◌, ◌<◌, min}
@@ -8,7 +8,7 @@ use native.Mathlib.Nat.{add-zero, zero-add, add_assoc, min-eq_left}
 use native.Mathlib.Omega.{arith}
 use lib.Dec.{leb, ltb, eqb}
 use lib.ListN.{length, take, drop, length-append, length-drop, length-take, drop_of_length-le}
-use lib.Seq.{take_all, length-take-le, drop-drop, take-append-le, drop-append-le, drop-append-add, drop-append_seam}
+use lib.Seq.{take_all, length-take-le, take-append-le, drop-append-le, drop-append-add, drop-append_seam}
 use borrow.Author.Tests.{le-leb, lt-leb, lt-ltb, le-ltb, leb-true, leb-false, ltb-true, ltb-false, eq-eqb, ne_eqb, eqb-true, eqb-false}
 use Rattle.fields.proofs.Cases.{cases, true≢false}
 use Rattle.packet.specs.Layout.{size_of}
@@ -18,8 +18,7 @@ use Rattle.packet.proofs.LayoutLaws.{size-least, size-append}
 use Rattle.transport.specs.Load.{Load, plain, start}
 use Rattle.transport.proofs.LoadLaws.{Sound, sound-plain, sound-start}
 use Rattle.carry.specs.Loads.{Gone, gone_of, loads_by, loads_of}
-use Rattle.carry.specs.OnBytes.{left_by, left_of, plan_of, load_for, bytes_by, loads_from}
-use Rattle.carry.specs.declared.Plan.{Plan}
+use Rattle.carry.specs.OnBytes.{left_by, left_of, Plan, plan_of, load_for, bytes_by, loads_from}
 use Rattle.carry.proofs.LoadLaws.{Goes, evenly, cut, goes, whole_long, joined-more, loads-start, loads-none, loads-plain}
 
 -- ---- what is left of the packet that some bytes end in
@@ -234,18 +233,16 @@ from_more r l h =
     (by-any (length l) (length (drop (plan_of r l).bytes l)) (plan_of r l).left (drop (plan_of r l).bytes l)
     (rw (length-drop (plan_of r l).bytes l) (omega arith)) (omega arith))
 
--- a load more: it takes some bytes of those that are left
-pub load_one : (batch : List ℕ) (at r : ℕ) → at < length batch → (p : Plan) → p ≡ plan_of r (drop at batch)
-    → (0 < p.bytes) × (at + p.bytes ≤ length batch) × (loads_from r (drop at batch) ≡ load_for p r (drop at batch) ∷ loads_from p.left (drop (at + p.bytes) batch))
-load_one batch at r h p e =
-    let some : 0 < length (drop at batch) = simp length-drop (omega arith) in
-    let k = plan-carries r (drop at batch) some in
-    let d = length-drop at batch in
-    (rw e k.some, rw e (omega (arith, k.most)), rw (e, ← drop-drop (plan_of r (drop at batch)).bytes at batch) (from_more r (drop at batch) some))
-
--- none where nothing is left
-pub loads-end : (batch : List ℕ) (at r : ℕ) → length batch ≤ at → length (loads_from r (drop at batch)) ≡ 0
-loads-end batch at r h = ap (λ (l : List ℕ). length (loads_from r l)) (drop_of_length-le batch {i = at} h) ∙ ap length (from-nil r)
+-- the first of them holds what a load may
+pub first-sound : (r : ℕ) (l : List ℕ) (x : Load) (ls : List Load) → loads_from r l ≡ x ∷ ls → Sound x
+first-sound r [] x ls e = let z : length (x ∷ ls) ≡ 0 = ap length (sym e ∙ from-nil r) in absurd (omega arith)
+first-sound r (y ∷ l) x ls e =
+    let h : 0 < length (y ∷ l) = omega arith in
+    subst Sound (ap (head x) (sym (from_more r (y ∷ l) h) ∙ e)) (load-sound r (y ∷ l) h)
+  where
+    head : Load → List Load → Load
+    head d [] = d
+    head d (x ∷ ls) = x
 
 -- there are no more loads than bytes
 by-few : (k r : ℕ) (l : List ℕ) → length (bytes_by k r l) ≤ length l

@@ -1,13 +1,15 @@
 -- The batch writer: what it refuses, what it answers, and what the output then holds.
-use Rattle.std.specs.Prelude.{ℕ, zero, suc, ◌+◌, ◌*◌, ◌%◌, List, [], ◌∷◌, ltb, length, take, drop}
+use Rattle.std.specs.Prelude.{ℕ, zero, suc, ◌+◌, ◌*◌, ◌%◌, List, [], ◌∷◌, ltb, length, take, drop, Result}
 use Rattle.fields.specs.Parts.{overlay}
 use Rattle.refusals.specs.Checks.{Check, ◌when◌, found}
-use Rattle.refusals.specs.Answers.{answer}
+use Rattle.refusals.specs.Answers.{answer, told}
+use Rattle.refusals.specs.declared.Refusal.{Refusal}
 use Rattle.packet.specs.Cut.{cut, batch_fault, joined}
 use Rattle.transport.specs.Load.{Load, transport_of}
 use Rattle.transport.specs.Tests.{pid_outside}
 use Rattle.carry.specs.Loads.{loads_of}
 use Rattle.carry.specs.declared.Carried.{Carried}
+use Rattle.carry.specs.declared.Sent.{Sent}
 
 -- the batch, cut into its packets
 abbrev pub packets_of : List ℕ → List (List ℕ)
@@ -30,6 +32,14 @@ carry_checks pid first_count batch room =
     ∷ found (batch_fault batch)
     ∷ 16 when ltb room (188 * length (loads batch))
     ∷ []
+
+-- the answer that a result stands for
+abbrev pub carried_told : Result Sent Refusal → Carried
+carried_told r =
+    told
+    (λ n. record { refusal = n; packets = 0; next_count = 0 })
+    (λ s. record { refusal = 0; packets = s.packets; next_count = s.next_count })
+    r
 
 -- an answer, and what the lent output holds after it
 pub record Outcome : Type 0 where

@@ -1,10 +1,11 @@
 -- The same loads, as a program goes over the batch's bytes: at each place it knows how many bytes are left of the packet
 -- under way. Contracts of private functions cite this; the writer's own contract does not.
-use Rattle.std.specs.Prelude.{ℕ, zero, suc, ◌-◌, min, true, false, cond, ◌&&◌, List, [], ◌∷◌, leb, ltb, eqb, length, take, drop}
+use Rattle.std.specs.Prelude.{ℕ, zero, suc, ◌-◌, min, Bool, true, false, cond, ◌&&◌, List, [], ◌∷◌, leb, ltb, eqb, length, take, drop, Option, Some, None}
 use Rattle.packet.specs.Layout.{size_of}
 use Rattle.transport.specs.Load.{Load, plain, start}
 use Rattle.carry.specs.Loads.{follows}
-use Rattle.carry.specs.declared.Plan.{Plan}
+use Rattle.carry.specs.declared.Piece.{Piece}
+use Rattle.carry.specs.declared.Pieces.{Pieces}
 
 -- n bytes of l go, packet after packet by their own lengths: how many are left of the one that they end in
 unfoldable pub left_by : ℕ → ℕ → List ℕ → ℕ
@@ -16,6 +17,12 @@ left_by (suc k) n l =
 
 unfoldable pub left_of : ℕ → List ℕ → ℕ
 left_of n l = left_by n n l
+
+-- a transport packet: whether it has a start, how many bytes it carries, and how many are then left of the packet under way
+pub record Plan : Type 0 where
+  pub starts : Bool
+  pub bytes : ℕ
+  pub left : ℕ
 
 -- the next transport packet where l is what is left of the batch and r bytes of it belong to the packet under way:
 -- whether it has a start, how many bytes it carries, and how many are then left of the packet under way
@@ -37,3 +44,17 @@ bytes_by (suc k) r l =
 
 unfoldable pub loads_from : ℕ → List ℕ → List Load
 loads_from r l = bytes_by (length l) r l
+
+-- ---- as the program hands them out
+
+abbrev pub load_with : Option ℕ → List ℕ → Load
+load_with None d = plain d
+load_with (Some n) d = start n d
+
+-- the load that a piece is
+abbrev pub load_in : Piece → Load
+load_in p = load_with p.pointer p.bytes.now
+
+-- the loads that pieces still give
+abbrev pub coming : Pieces → List Load
+coming s = loads_from s.under_way s.rest.now

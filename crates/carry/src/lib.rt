@@ -1,20 +1,28 @@
 // Carriage: the batch writer. A batch of T2-MI packets goes into transport packets of one PID, by 01's four cases.
 #![tactic(auto)]
 
-ghost use Rattle.std.specs.Prelude.{◌≡◌, ◌&&◌, [], ◌∷◌, ◌+◌, ◌-◌, ◌*◌, ◌%◌, ◌≤◌, ◌<◌, min, leb, ltb, length, drop};
+ghost use Rattle.std.specs.Prelude.{◌≡◌, ◌&&◌, [], ◌∷◌, ◌*◌, ◌≤◌, ◌<◌, leb, ltb, length, take, drop};
+ghost use Rattle.std.specs.Iterator.{YieldsFirstBy, item_count};
 ghost use Rattle.fields.specs.Formats.{pack};
-ghost use Rattle.fields.specs.Parts.{part, overlay};
+ghost use Rattle.fields.specs.Parts.{overlay};
 ghost use Rattle.refusals.specs.Checks.{first};
 ghost use Rattle.refusals.specs.Answers.{code};
 ghost use Rattle.transport.specs.Header.{header};
-ghost use Rattle.transport.specs.Load.{plain, start, control_for, head_bytes, transport_of};
-ghost use Rattle.carry.specs.Building.{blank, field_head, Laid};
-ghost use Rattle.carry.specs.Carry.{carry_checks, carry_of};
-ghost use Rattle.carry.specs.OnBytes.{left_of, plan_of, load_for, loads_from};
+ghost use Rattle.transport.specs.Load.{control_for, head_bytes, transport_of};
+ghost use Rattle.carry.specs.Building.{blank, field_head, Held, Laid};
+ghost use Rattle.carry.specs.Carry.{carry_checks, carried_told, carry_of};
+ghost use Rattle.carry.specs.OnBytes.{left_of, loads_from, load_in, coming};
 
 use refusals::Refusal;
 
-// What carrying a batch gives: how many transport packets were written, and the count to go on with.
+// What was written: so many transport packets, and the count to go on with.
+#[derive(Clone, Copy, Debug, PartialEq, Eq)]
+pub struct Sent {
+    pub packets: u32,
+    pub next_count: u8,
+}
+
+// What C sees of carrying a batch: zeros with a refusal.
 #[repr(C)]
 #[derive(Clone, Copy)]
 pub struct Carried {
@@ -23,92 +31,103 @@ pub struct Carried {
     pub next_count: u8,
 }
 
-// The next transport packet: whether it has a start, how many bytes of the batch it carries, and how many are then left of
-// the packet under way.
-#[derive(Clone, Copy)]
-struct Plan {
-    starts: bool,
-    bytes: usize,
-    left: usize,
-}
+impl From<Result<Sent, Refusal>> for Carried {
+    ghost from_gives = { λ r c. c ≡ carried_told r };
 
-// What was written: so many transport packets, and the count to go on with.
-#[derive(Clone, Copy)]
-struct Done {
-    packets: usize,
-    count: u8,
-}
-
-// The lesser of two numbers.
-fn least(a: usize, b: usize) -> usize
-    ensures { result ≡ min a b }
-{
-    if a < b {
-        return a;
+    fn from(answer: Result<Sent, Refusal>) -> Carried {
+        match answer {
+            Ok(sent) => Carried {
+                refusal: 0,
+                packets: sent.packets,
+                next_count: sent.next_count,
+            },
+            Err(refusal) => Carried {
+                refusal: refusal.number(),
+                packets: 0,
+                next_count: 0,
+            },
+        }
     }
-    b
 }
 
-// How many are left of a when b are gone, 0 where b is more.
-fn less(a: usize, b: usize) -> usize
-    ensures { result ≡ a - b }
-{
-    if a < b {
-        return 0;
-    }
-    a - b
+// What one transport packet carries: bytes of the batch, and where in them a packet begins, if one does.
+#[derive(Clone, Copy)]
+struct Piece<'a> {
+    pointer: Option<u8>,
+    bytes: &'a [u8],
+}
+
+// The pieces that a batch still gives: what is left of its bytes, and how many of them belong to the packet under way.
+#[derive(Drop)]
+struct Pieces<'a> {
+    rest: &'a [u8],
+    under_way: usize,
 }
 
 // Whether a transport packet has a start: r at most 182, and more than r bytes remain.
 fn has_start(r: usize, rest: usize) -> bool
     ensures { result ≡ (ltb r rest && leb r 182) }
 {
-    if rest <= r {
-        return false;
-    }
-    r <= 182
+    r < rest && r <= 182
 }
 
-// How many bytes are left of the packet that n bytes of the batch end in, from a packet's first byte on.
-fn left_after(batch: &[u8], from: usize, n: usize) -> usize
-    requires { (from ≤ length batch.now) × (n ≤ 183) }
-    ensures { result ≡ left_of n (drop from batch.now) }
+// How many bytes are left of the packet that so many bytes of the batch end in, from a packet's first byte on.
+fn left_after(batch: &[u8], bytes: usize) -> usize
+    requires { bytes ≤ 183 }
+    ensures { result ≡ left_of bytes batch.now }
 {
-    let mut at = from;
-    let mut left = n;
-    let mut size = packet::own_length(batch, at);
-    while size < left {
-        at += size;
-        left -= size;
-        size = packet::own_length(batch, at);
+    let mut end = 0;
+    // No range: each packet's own length tells where the next begins.
+    while end < bytes {
+        end += packet::own_length(batch, end);
     }
-    if left == 0 {
-        return 0;
-    }
-    size - left
+    end - bytes
 }
 
-// The next transport packet, at a place of the batch with r bytes left of the packet under way.
-fn next_load(batch: &[u8], at: usize, r: usize) -> Plan
-    requires { at ≤ length batch.now }
-    ensures { result ≡ plan_of r (drop at batch.now) }
-{
-    let rest = batch.len() - at;
-    if has_start(r, rest) {
-        let bytes = least(183, rest);
-        let left = left_after(batch, at + r, bytes - r);
-        return Plan {
-            starts: true,
-            bytes,
-            left,
-        };
+impl<'a> Pieces<'a> {
+    // The pieces of a batch.
+    fn of(batch: &'a [u8]) -> Pieces<'a>
+        ensures { coming result ≡ loads_from 0 batch.now }
+    {
+        Pieces {
+            rest: batch,
+            under_way: 0,
+        }
     }
-    let bytes = least(least(184, r), rest);
-    let left = less(r, 184);
-    Plan {
-        starts: false,
-        bytes,
-        left,
+
+    // The next n bytes, of which the packet under way then has so many left.
+    fn hand_out(&mut self, pointer: Option<u8>, n: usize, left: usize) -> Piece<'a>
+        requires { n ≤ length self.old.rest.now }
+        ensures piece { (result.pointer ≡ pointer) × (result.bytes.now ≡ take n self.old.rest.now) }
+        ensures rest { (self.new.rest.now ≡ drop n self.old.rest.now) × (self.new.under_way ≡ left) }
+    {
+        let (bytes, rest) = self.rest.split_at(n);
+        self.rest = rest;
+        self.under_way = left;
+        Piece { pointer, bytes }
+    }
+}
+
+impl<'a> Iterator for Pieces<'a> {
+    type Item = Piece<'a>;
+
+    ghost next_gives = { YieldsFirstBy load_in coming };
+
+    ghost remaining = { item_count coming };
+
+    fn next(&mut self) -> Option<Piece<'a>> {
+        let r = self.under_way;
+        let rest = self.rest.len();
+        if rest == 0 {
+            return None;
+        }
+        if has_start(r, rest) {
+            let n = rest.min(183);
+            let left = left_after(&self.rest[r..], n - r);
+            return Some(self.hand_out(Some(r as u8), n, left));
+        }
+        let n = r.min(184).min(rest);
+        Some(self.hand_out(None, n, r.saturating_sub(184)))
     }
 }
 
@@ -116,26 +135,14 @@ fn next_load(batch: &[u8], at: usize, r: usize) -> Plan
 fn needed(batch: &[u8]) -> usize
     ensures { (result ≡ length (loads_from 0 batch.now)) × (result ≤ length batch.now) }
 {
-    let mut at = 0;
-    let mut r = 0;
-    let mut n = 0;
-    while at < batch.len() {
-        let p = next_load(batch, at, r);
-        at += p.bytes;
-        r = p.left;
-        n += 1;
-    }
-    n
+    Pieces::of(batch).count()
 }
 
 // Adaptation control for so much room: payload alone, or a field and payload.
 fn control_for(room: usize) -> u8
     ensures { result ≡ control_for room }
 {
-    if room == 0 {
-        return 1;
-    }
-    3
+    if room == 0 { 1 } else { 3 }
 }
 
 // The transport header as one number: no error mark, priority 0, not scrambled.
@@ -155,95 +162,62 @@ fn put_field(t: &mut [u8], room: usize)
     if room == 0 {
         return;
     }
-    fields::store_at(t, 4, 1, (room - 1) as u64);
+    t[4] = (room - 1) as u8;
     if room == 1 {
         return;
     }
-    fields::store_at(t, 5, 1, 0);
+    t[5] = 0;
 }
 
-// A packet of 0xFF with its header and its adaptation field.
-fn head(pid: u16, begins: u8, count: u8, room: usize) -> [u8; 188]
-    requires { room ≤ 183 }
-    ensures { result ≡ overlay 0 (head_bytes pid begins count room) blank }
+// Makes t a packet of 0xFF with its header and its adaptation field.
+fn put_head(t: &mut [u8], pid: u16, begins: u8, count: u8, room: usize)
+    requires { (length t.old ≡ 188) × (room ≤ 183) }
+    ensures { t.new ≡ overlay 0 (head_bytes pid begins count room) blank }
 {
-    let mut t = [0xff; 188];
+    t.fill(0xff);
     fields::store_at(
-        &mut t,
+        t,
         0,
         4,
         header_number(pid, begins, control_for(room), count),
     );
-    put_field(&mut t, room);
-    t
+    put_field(t, room);
 }
 
-// A transport packet with no start: n bytes of the batch, behind an adaptation field for the room that they leave.
-fn plain_packet(pid: u16, count: u8, batch: &[u8], at: usize, n: usize) -> [u8; 188]
-    requires { (1 ≤ n) × (n ≤ 184) × (at + n ≤ length batch.now) }
-    ensures { result ≡ transport_of pid count (plain (part at n batch.now)) }
+// Makes t the transport packet of a piece: behind its head the pointer, if there is one, and the bytes up to the end.
+fn put_piece(t: &mut [u8], pid: u16, count: u8, piece: Piece)
+    requires { (length t.old ≡ 188) × Held (load_in piece) }
+    ensures { t.new ≡ transport_of pid count (load_in piece.entry) }
 {
-    let room = 184 - n;
-    let mut t = head(pid, 0, count, room);
-    fields::copy(&mut t, 4 + room, n, batch, at);
-    t
-}
-
-// A transport packet with a start: the pointer, then n bytes of the batch.
-fn start_packet(pid: u16, count: u8, pointer: u8, batch: &[u8], at: usize, n: usize) -> [u8; 188]
-    requires { (n ≤ 183) × (at + n ≤ length batch.now) }
-    ensures { result ≡ transport_of pid count (start pointer (part at n batch.now)) }
-{
-    let room = 183 - n;
-    let mut t = head(pid, 1, count, room);
-    let first = 4 + room;
-    fields::store_at(&mut t, first, 1, pointer as u64);
-    fields::copy(&mut t, first + 1, n, batch, at);
-    t
-}
-
-// Lays the next transport packet over out at a place.
-fn put_load(
-    out: &mut [u8],
-    place: usize,
-    pid: u16,
-    count: u8,
-    p: Plan,
-    r: usize,
-    batch: &[u8],
-    at: usize,
-)
-    requires { (place + 188 ≤ length out.old) × (at < length batch.now) × (p ≡ plan_of r (drop at batch.now)) }
-    ensures { out.new ≡ overlay place (transport_of pid count (load_for p r (drop at batch.now))) out.old }
-{
-    let bytes = p.bytes;
-    if p.starts {
-        let t = start_packet(pid, count, r as u8, batch, at, bytes);
-        fields::copy(out, place, 188, &t, 0);
-        return;
+    let n = piece.bytes.len();
+    match piece.pointer {
+        None => put_head(t, pid, 0, count, 184 - n),
+        Some(pointer) => {
+            put_head(t, pid, 1, count, 183 - n);
+            t[187 - n] = pointer;
+        }
     }
-    let t = plain_packet(pid, count, batch, at, bytes);
-    fields::copy(out, place, 188, &t, 0);
+    t[188 - n..].copy_from_slice(piece.bytes);
 }
 
 // Lays all transport packets of a batch over the front of out, the counts rising from the first.
-fn put_loads(pid: u16, first_count: u8, batch: &[u8], out: &mut [u8]) -> Done
-    requires { (first_count < 16) × (188 * length (loads_from 0 batch.now) ≤ length out.old) }
+fn put_pieces(pid: u16, first_count: u8, batch: &[u8], out: &mut [u8]) -> Sent
+    requires { (first_count < 16) × (length batch.now ≤ 65536) × (188 * length (loads_from 0 batch.now) ≤ length out.old) }
     ensures { Laid pid first_count (loads_from 0 batch.now) out.old result out.new }
 {
-    let mut at = 0;
-    let mut r = 0;
-    let mut n = 0;
+    let mut packets = 0;
     let mut count = first_count;
-    while at < batch.len() {
-        let p = next_load(batch, at, r);
-        put_load(out, 188 * n, pid, count, p, r, batch, at);
-        at += p.bytes;
-        r = p.left;
-        n += 1;
+    // Not over chunks_exact_mut: of a chunk whose borrow is over, a proof knows the length alone, and not the bytes.
+    for piece in Pieces::of(batch) {
+        let at = 188 * packets as usize;
+        put_piece(&mut out[at..at + 188], pid, count, piece);
+        packets += 1;
         count = (count + 1) % 16;
     }
-    Done { packets: n, count }
+    Sent {
+        packets,
+        next_count: count,
+    }
 }
 
 // Refuses a batch that is not carried.
@@ -268,21 +242,9 @@ fn check_carry(pid: u16, first_count: u8, batch: &[u8], room: usize) -> Result<(
 }
 
 // Carries a batch of T2-MI packets, back to back, in transport packets of a PID, which are written to the front of out.
-pub fn carry(pid: u16, first_count: u8, batch: &[u8], out: &mut [u8]) -> Carried
-    ensures { record { answer = result; out = out.new } ≡ carry_of pid first_count batch.now out.old }
+pub fn carry(pid: u16, first_count: u8, batch: &[u8], out: &mut [u8]) -> Result<Sent, Refusal>
+    ensures { record { answer = carried_told result; out = out.new } ≡ carry_of pid first_count batch.now out.old }
 {
-    if let Err(refusal) = check_carry(pid, first_count, batch, out.len()) {
-        return Carried {
-            refusal: refusal.number(),
-            packets: 0,
-            next_count: 0,
-        };
-    }
-    let d = put_loads(pid, first_count, batch, out);
-    let packets = d.packets as u32;
-    Carried {
-        refusal: 0,
-        packets,
-        next_count: d.count,
-    }
+    check_carry(pid, first_count, batch, out.len())?;
+    Ok(put_pieces(pid, first_count, batch, out))
 }

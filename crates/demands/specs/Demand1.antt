@@ -23,17 +23,14 @@ use Rattle.functions.specs.declared.Function.TheVariants.{TimeOffset}
 use Rattle.functions.specs.Read.{FunctionRead}
 use Rattle.addressing.specs.Data.{house}
 use Rattle.addressing.specs.Payload as addressing
-use Rattle.addressing.specs.Walk.{walk_checks}
-use Rattle.addressing.specs.declared.PayloadRead.{PayloadRead}
-use Rattle.addressing.specs.declared.Step.TheVariants.{End}
-use Rattle.addressing.specs.declared.Walked.{Walked}
+use Rattle.addressing.specs.Walk.{walk_checks, End, Walked}
+use Rattle.addressing.specs.Payload.{PayloadRead}
 use Rattle.mip.specs.Read as mip
 use Rattle.mip.specs.Write as mip_writing
-use Rattle.mip.specs.Timing.{emission_checks, extra_checks}
+use Rattle.mip.specs.Timing.{emission_checks, extra_checks, Time}
 use Rattle.mip.specs.declared.Mip.{Mip}
-use Rattle.mip.specs.declared.MipRead.{MipRead}
+use Rattle.mip.specs.Read.{MipRead}
 use Rattle.mip.specs.declared.Steps.{Steps}
-use Rattle.mip.specs.declared.Time.{Time}
 use Rattle.transport.specs.Tests.{pid_outside}
 use Rattle.carry.specs.Carry as carrying
 use Rattle.gather.specs.State.{unfit, gather_checks}

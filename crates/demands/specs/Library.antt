@@ -20,16 +20,14 @@ use Rattle.functions.specs.declared.Function.{Function}
 use Rattle.functions.specs.Read.{FunctionRead}
 use Rattle.addressing.specs.Data.{house}
 use Rattle.addressing.specs.Payload as addressing
-use Rattle.addressing.specs.Walk.{walk_of}
-use Rattle.addressing.specs.declared.PayloadRead.{PayloadRead}
-use Rattle.addressing.specs.declared.Walked.{Walked}
+use Rattle.addressing.specs.Walk.{walk_of, Walked}
+use Rattle.addressing.specs.Payload.{PayloadRead}
 use Rattle.mip.specs.Read as mip
 use Rattle.mip.specs.Write as mip_writing
-use Rattle.mip.specs.Timing.{emission_of, extra_of}
+use Rattle.mip.specs.Timing.{emission_of, extra_of, Time}
 use Rattle.mip.specs.declared.Mip.{Mip}
-use Rattle.mip.specs.declared.MipRead.{MipRead}
+use Rattle.mip.specs.Read.{MipRead}
 use Rattle.mip.specs.declared.Steps.{Steps}
-use Rattle.mip.specs.declared.Time.{Time}
 use Rattle.carry.specs.Carry as carrying
 use Rattle.gather.specs.State.{start_of}
 use Rattle.gather.specs.Gather as gathering

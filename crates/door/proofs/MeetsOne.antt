@@ -19,15 +19,12 @@ use Rattle.stamp.specs.Read.{StampRead}
 use Rattle.functions.specs.declared.Function.{Function}
 use Rattle.functions.specs.declared.Function.TheVariants.{TimeOffset, FrequencyOffset, Power, Private, Cell, Enable, Bandwidth, Passed}
 use Rattle.functions.specs.Read.{FunctionRead}
-use Rattle.addressing.specs.declared.PayloadRead.{PayloadRead}
-use Rattle.addressing.specs.declared.Step.{Step}
-use Rattle.addressing.specs.declared.Step.TheVariants.{Given, End}
-use Rattle.addressing.specs.declared.Walked.{Walked}
+use Rattle.addressing.specs.Payload.{PayloadRead}
+use Rattle.addressing.specs.Walk.{Step, Given, End, Walked}
 use Rattle.mip.specs.Write as mip_writing
-use Rattle.mip.specs.Timing.{steps}
+use Rattle.mip.specs.Timing.{steps, Time}
 use Rattle.mip.specs.declared.Mip.{Mip}
-use Rattle.mip.specs.declared.MipRead.{MipRead}
-use Rattle.mip.specs.declared.Time.{Time}
+use Rattle.mip.specs.Read.{MipRead}
 use Rattle.transport.specs.Tests.{pid_outside}
 use Rattle.gather.specs.State.{start_of}
 use Rattle.gather.specs.Gather as gathering

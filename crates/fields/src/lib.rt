@@ -50,14 +50,17 @@ pub fn store_at(dst: &mut [u8], at: usize, n: usize, v: u64)
 }
 
 // Lays the n bytes of src at from over dst at at; nothing where they are not there, or there is no room.
-#[tactic(auto, unfolding(crate::specs::Parts::copied_to, crate::specs::Parts::overlay, crate::specs::Parts::part))]
+#[tactic(auto, unfolding(crate::specs::Parts::copied_to))]
 pub fn copy(dst: &mut [u8], at: usize, n: usize, src: &[u8], from: usize)
     ensures { dst.new ≡ copied_to at n src.now from dst.old }
 {
     if !within(from, n, src.len()) || !within(at, n, dst.len()) {
         return;
     }
-    dst[at..at + n].copy_from_slice(&src[from..from + n]);
+    // Not `copy_from_slice`: it calls memmove, and the static library needs memcpy and memset alone of C (include/sfn.h).
+    for (i, b) in src[from..from + n].iter().enumerate() {
+        dst[at + i] = *b;
+    }
 }
 
 // Lays n times byte over dst at at; nothing where there is no room.

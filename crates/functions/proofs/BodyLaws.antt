@@ -1,12 +1,12 @@
 -- A body and what it holds undo each other: a signed number, and the fields of a format. Over any count of bytes k, and any
 -- format that fills them.
 -- Assumes nothing.
-use mathlib.Core.Path.{◌≡◌, sym, ap, ◌∙◌, subst}
+use mathlib.Core.Path.{◌≡◌, refl, sym, ap, ◌∙◌, subst}
 use mathlib.Core.Bool.{false}
 use mathlib.Core.List.{List, [], ◌∷◌}
 use Prim.Native.Nat.{ℕ, ◌+◌, ◌*◌, ◌^◌, ◌≤◌, ◌<◌}
 use native.Mathlib.Omega.{arith}
-use lib.IntN.{ℤ}
+use lib.IntN.{ℤ, pos, negsuc}
 use lib.ListN.{length, get_or}
 use Rattle.fields.specs.Formats.{span, pack, unpack, Fit}
 use Rattle.fields.specs.Numbers.{Bytes, number, bytes}
@@ -14,7 +14,11 @@ use Rattle.fields.specs.Parts.{number_at}
 use Rattle.fields.specs.Signed.{signed, unsigned, InSigned, beyond_signed}
 use Rattle.fields.proofs.FormatLaws.{pack-lt, pack-unpack, unpack-pack}
 use Rattle.fields.proofs.NumberLaws.{length-bytes, number-bytes, number_lt, bytes-number, number-cons, number-nil}
-use Rattle.fields.proofs.PartLaws.{number-at, part-whole}
+use mir.Syntax.{w16}
+use mir.Val.{to_z, of_z}
+use Rattle.functions.specs.Write.{unfit}
+use Rattle.functions.specs.declared.Function.TheVariants.{FrequencyOffset}
+use Rattle.fields.proofs.PartLaws.{stored-at, copied-to, number-at, part-whole}
 use Rattle.fields.proofs.SignedLaws.{unsigned_signed, signed-in, in-signed, not_beyond, unsigned-lt, signed-unsigned}
 
 -- ---- from what is held to the body and back
@@ -59,5 +63,21 @@ one_byte [] h = omega arith
 one_byte (x ∷ []) h = number-cons x [] ∙ ap (λ (n : ℕ). x * 1 + n) number-nil ∙ omega arith
 one_byte (x ∷ y ∷ l) h = omega arith
 
--- how long a body is, for the check
+-- ---- for the check: how long a body is, and how it is laid down
+
+pub as_signed : (n : ℕ) → to_z w16 n ≡ signed 16 n
+unfolding signed
+as_signed n = refl
+
+pub as_unsigned : (z : ℤ) → of_z w16 z ≡ unsigned 16 z
+unfolding unsigned
+as_unsigned (pos n) = refl
+as_unsigned (negsuc k) = refl
+
+pub fits_24 : (z : ℤ) → unfit (FrequencyOffset z) ≡ false → InSigned 24 z
+unfolding unfit
+fits_24 z h = in-signed 24 z h
+
 pub ruleset sizes = (length-bytes)
+
+pub ruleset layings = (length-bytes, stored-at, copied-to, part-whole, as_unsigned, fits_24)

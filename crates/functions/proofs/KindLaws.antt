@@ -1,15 +1,12 @@
--- The laws of the kinds of functions: their bodies' lengths, their flags, and what the code's `match` tells.
+-- The laws of the kinds of functions: their bodies' lengths, their flags, and what they carry.
 -- Assumes nothing.
 use mathlib.Core.Path.{◌≡◌, refl, sym}
 use mathlib.Core.Bool.{Bool, true, false}
-use mathlib.Core.List.{List, [], ◌∷◌}
+use mathlib.Core.List.{List}
 use Prim.Native.Nat.{ℕ, zero, suc, ◌<◌}
 use native.Mathlib.Omega.{arith}
-use types.Run.{OneOf, miss}
-use denote.Enum.Declared.{tag_of as place_of}
 use borrow.Author.Tests.{eqb-true, not-false}
 use Rattle.fields.proofs.Cases.{true≢false}
-use Rattle.functions.specs.contracts.Function.{the_type}
 use Rattle.functions.specs.Tags.{exactly, size_of, body_wrong}
 use Rattle.functions.specs.Function.{is_set, bit, carries, body_of}
 use Rattle.functions.specs.declared.Function.{Function}
@@ -43,15 +40,3 @@ carried-is (Cell id wait rest) carried h = absurd (true≢false (sym h))
 carried-is Enable carried h = refl
 carried-is (Bandwidth value wait) carried h = absurd (true≢false (sym h))
 carried-is (Passed tag) carried h = refl
-
--- ---- what an arm of several kinds tells: `place_of the_type` is a kind's place in the enum
-
-pub arm-carries : (f : Function) → OneOf (3 ∷ 5 ∷ 7 ∷ []) (place_of the_type f) → carries f ≡ true
-arm-carries (TimeOffset t) h = absurd (miss (3 ∷ 5 ∷ 7 ∷ []) 0 tt h)
-arm-carries (FrequencyOffset f) h = absurd (miss (3 ∷ 5 ∷ 7 ∷ []) 1 tt h)
-arm-carries (Power p) h = absurd (miss (3 ∷ 5 ∷ 7 ∷ []) 2 tt h)
-arm-carries Private h = refl
-arm-carries (Cell id wait rest) h = absurd (miss (3 ∷ 5 ∷ 7 ∷ []) 4 tt h)
-arm-carries Enable h = refl
-arm-carries (Bandwidth value wait) h = absurd (miss (3 ∷ 5 ∷ 7 ∷ []) 6 tt h)
-arm-carries (Passed tag) h = refl

@@ -72,7 +72,7 @@ fn value_reserved(v: u8) -> bool
 }
 
 // Whether a bandwidth function's value is reserved. It stands in the top seven bits of the body's first byte.
-#[tactic(auto, unfolding(crate::specs::Tags::bandwidth_reserved, crate::specs::Tags::value_reserved, fields::specs::Formats::unpack))]
+#[tactic(auto, unfolding(crate::specs::Tags::bandwidth_reserved, fields::specs::Formats::unpack))]
 pub fn bandwidth_reserved(tag: u8, first: u8) -> bool
     ensures { result ≡ bandwidth_reserved tag first }
 {
@@ -228,6 +228,7 @@ fn bandwidth_number(value: u8, wait: bool) -> u64
 }
 
 // Lays a function's body over the front of out.
+#[tactic(auto, using(crate::proofs::BodyLaws::layings), unfolding(crate::specs::Function::body_of))]
 fn put_body(f: Function, bytes: &[u8], out: &mut [u8])
     requires { Writable f bytes.now out.old }
     ensures { out.new ≡ overlay 0 (body_of f bytes.now) out.old }

@@ -56,11 +56,11 @@ fn fields_line(h: Header) -> Line
     ensures { result.bytes ≡ fields_line h }
 {
     let mut line = Line::new();
-    lay_word(&mut line, h.kind as u64, ' ');
-    lay_word(&mut line, h.count as u64, ' ');
-    lay_word(&mut line, h.frame as u64, ' ');
-    lay_word(&mut line, h.stream as u64, ' ');
-    lay_word(&mut line, h.bits as u64, '\n');
+    lay_word(&mut line, u64::from(h.kind), ' ');
+    lay_word(&mut line, u64::from(h.count), ' ');
+    lay_word(&mut line, u64::from(h.frame), ' ');
+    lay_word(&mut line, u64::from(h.stream), ' ');
+    lay_word(&mut line, u64::from(h.bits), '\n');
     line
 }
 
@@ -71,7 +71,8 @@ fn refused_line(refusal: Refusal) -> Line
 {
     let mut line = Line::new();
     line.push_str("refused ");
-    lay_word(&mut line, refusal.number() as u64, '\n');
+    lay_word(&mut line, u64::from(refusal.number()), '
+');
     line
 }
 

@@ -102,10 +102,7 @@ fn list(rt: &HostRuntime) -> Result<(), Fault> {
     let mut gathering = [0u8; 8202];
     let mut output = [0u8; 8385];
     let mut lines = [0u8; 65536];
-    let mut text = Text {
-        lines: &mut lines,
-        at: 0,
-    };
+    let mut text = Text::new(&mut lines);
     lines::head_line(&mut text);
     let head = text.at;
     flush(rt, &lines, head)?;
@@ -119,10 +116,7 @@ fn list(rt: &HostRuntime) -> Result<(), Fault> {
         &mut output,
         &mut lines,
     )?;
-    let mut text = Text {
-        lines: &mut lines,
-        at: 0,
-    };
+    let mut text = Text::new(&mut lines);
     listing.last_line(&mut text);
     let last = text.at;
     flush(rt, &lines, last)

@@ -60,11 +60,6 @@ module _ (p : List ℕ) (b : Bytes p) (e : length p ≡ 188) where
   pub header-number : header_of p ≡ unpack header (number_at 0 4 p)
   header-number = header-listed p (omega arith) ∙ ap (unpack header) (sym (number-at 0 4 p (omega arith) (omega arith)))
 
-  pub field-number : (i : ℕ) → header_field i p ≡ get_or (unpack header (number_at 0 4 p)) i 0
-  unfolding header_field
-  field-number i =
-      ap (λ (n : ℕ). get_or (unpack header n) i 0) (ap number (sym (four p (omega arith))) ∙ sym (number-at 0 4 p (omega arith) (omega arith)))
-
   pub parameter-numbers : parameters_of p ≡ unpack head (number_at 4 6 p) ++ (unpack times (number_at 10 6 p) ++ unpack tail (number_at 16 5 p))
   unfolding parameters_of
   parameter-numbers =
@@ -133,24 +128,24 @@ differ-packed ws xs ys f g =
     (λ d. rw (t, d))
     (λ d. absurd (eqb-false _ _ t (ap (pack ws) (differ-not xs ys d)))))
 
-pub header-judged : (p : List ℕ) → header_wrong p ≡ not (eqb (pack fixed_widths (fixed_of p)) 0x6_0151)
+pub header_judged : (p : List ℕ) → header_wrong p ≡ not (eqb (pack fixed_widths (fixed_of p)) 0x6_0151)
 unfolding pack
-header-judged p = differ-packed fixed_widths (fixed_of p) fixed_fields (fixed-fit p) (omega arith, (omega arith, (omega arith, (omega arith, (omega arith, (omega arith, tt))))))
+header_judged p = differ-packed fixed_widths (fixed_of p) fixed_fields (fixed-fit p) (omega arith, (omega arith, (omega arith, (omega arith, (omega arith, (omega arith, tt))))))
 
 -- ---- the parts that the code lends, where the addressing length is a
 
 module _ (p : List ℕ) (a : ℕ) (e : a ≡ addressing_length p) where
-  pub crc-part : take (21 + a + 4) p ≡ take (crc_end (addressing_length p)) p
-  crc-part = let n : 21 + a + 4 ≡ crc_end (addressing_length p) = omega arith in ap (λ (k : ℕ). take k p) n
+  pub crc_part : take (21 + a + 4) p ≡ take (crc_end (addressing_length p)) p
+  crc_part = let n : 21 + a + 4 ≡ crc_end (addressing_length p) = omega arith in ap (λ (k : ℕ). take k p) n
 
-  pub stuffing-part : take (length p - (21 + a + 4)) (drop (21 + a + 4) p) ≡ drop (crc_end (addressing_length p)) p
-  stuffing-part =
+  pub stuffing_part : take (length p - (21 + a + 4)) (drop (21 + a + 4) p) ≡ drop (crc_end (addressing_length p)) p
+  stuffing_part =
       let n : 21 + a + 4 ≡ crc_end (addressing_length p) = omega arith in
       take_all (length p - (21 + a + 4)) (drop (21 + a + 4) p) (rw (length-drop (21 + a + 4) p) (omega arith)) ∙ ap (λ (k : ℕ). drop k p) n
 
-  pub addressing-part : take (21 + a - 21) (drop 21 p) ≡ addressing_of p
+  pub addressing_part : take (21 + a - 21) (drop 21 p) ≡ addressing_of p
   unfolding addressing_of part
-  addressing-part = let n : 21 + a - 21 ≡ addressing_length p = omega arith in ap (λ (k : ℕ). take k (drop 21 p)) n
+  addressing_part = let n : 21 + a - 21 ≡ addressing_length p = omega arith in ap (λ (k : ℕ). take k (drop 21 p)) n
 
 -- some byte is not 0xFF
 pub ones-any : (l : List ℕ) → list_any (λ (b : ℕ). not (eqb b 0xFF)) l ≡ not_all_ones l
@@ -197,6 +192,10 @@ readable p z =
       stuffing = late.1.1.1.0;
       fault = not_found _ late.1.1.1.1.0;
     }
+
+-- the addressing data lies within it
+pub read_within : (p : List ℕ) → 0 ≡ first (read_checks p) → (length p ≡ 188) × (addressing_length p ≤ 163)
+read_within p z = let r = readable p (sym z) in (r.size, r.short)
 
 -- ---- the header and the parameters, from four numbers as code makes them
 
@@ -261,9 +260,9 @@ module _ (m : Mip) (n : ℕ) where
   fit_wide h f = rw (fit-not-wide header (header_fields m) h) (fit-not-wide parameters (parameter_fields m n) f)
 
   -- neither section_length nor the addressing length ever is
-  pub wide-alike : n ≤ 163 → field_wide m n ≡ field_wide m 0
+  pub wide_alike : n ≤ 163 → field_wide m n ≡ field_wide m 0
   unfolding field_wide too_wide
-  wide-alike h = rw (lt-ltb (19 + n) 256 (omega arith), lt-ltb n 256 (omega arith))
+  wide_alike h = rw (lt-ltb (19 + n) 256 (omega arith), lt-ltb n 256 (omega arith))
 
 -- four fields have fewer bits than the types that hold them
 flag-lt : (b : Bool) → ltb (flag b) 2 ≡ true

@@ -5,42 +5,28 @@ use Prim.Native.Nat.{ℕ, zero, suc, ◌+◌, ◌-◌, ◌*◌, ◌/◌, ◌%◌
 use native.Mathlib.Nat.{mod-lt, mod-eq_of_lt, mod-eq-sub-mod, add-mod_right, mod-add-div', zero-mul, suc-mul}
 use native.Mathlib.Omega.{arith}
 use lib.Dec.{ltb}
-use lib.IntN.{ℤ, pos, negsuc, sub_ℕ, ◌+ℤ◌, ◌-ℤ◌, +ℤ_assoc, +ℤ_comm, +ℤ_idr}
-use lib.Signed.{mag}
+use lib.IntN.{ℤ, pos, negsuc, sub_ℕ, ◌+ℤ◌, +ℤ_assoc, +ℤ_comm, +ℤ_idr}
 use borrow.Author.Tests.{ltb-true, ltb-false, le-ltb}
 use Rattle.std.specs.Int.{int_rem_euclid}
 use Rattle.fields.proofs.Cases.{cases}
 use Rattle.mip.specs.Timing.{modulo}
 
-pub modulo-lt : (z : ℤ) (m : ℕ) → 0 < m → modulo z m < m
+pub modulo_lt : (z : ℤ) (m : ℕ) → 0 < m → modulo z m < m
 unfolding modulo
-modulo-lt (pos n) m h = mod-lt n h
-modulo-lt (negsuc k) m h = omega arith
+modulo_lt (pos n) m h = mod-lt n h
+modulo_lt (negsuc k) m h = omega arith
 
 -- ---- a difference of natural numbers
 
 sub-below : (a b : ℕ) → b ≤ a → sub_ℕ a b ≡ pos (a - b)
 sub-below a b h = rw (le-ltb a b h)
 
--- ---- how large a sum is
-
-pub mag-add : (n : ℕ) (z : ℤ) → mag (pos n +ℤ z) ≤ n + mag z
-mag-add n (pos k) = omega arith
-mag-add n (negsuc k) =
-    cases (ltb n (suc k))
-    (λ t. rw t (omega arith))
-    (λ t. rw t (omega arith))
-
-pub mag-sub : (n k : ℕ) → mag (pos n -ℤ pos k) ≤ n + k
-mag-sub n zero = omega arith
-mag-sub n (suc k) = omega (arith, mag-add n (negsuc k))
-
 -- ---- the library's remainder, which is never negative, is the definition's
 
-pub euclid-modulo : (z : ℤ) (m : ℕ) → int_rem_euclid z (pos m) ≡ pos (modulo z m)
+pub euclid_modulo : (z : ℤ) (m : ℕ) → int_rem_euclid z (pos m) ≡ pos (modulo z m)
 unfolding modulo
-euclid-modulo (pos n) m = refl
-euclid-modulo (negsuc k) m = ap pos (less (k % m))
+euclid_modulo (pos n) m = refl
+euclid_modulo (negsuc k) m = ap pos (less (k % m))
   where
     less : (r : ℕ) → m - 1 - r ≡ m - suc r
     less r = omega arith

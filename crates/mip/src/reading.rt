@@ -110,6 +110,7 @@ fn checked(packet: &[u8]) -> Result<Lead, Refusal>
 }
 
 // Reads a MIP.
+#[tactic(auto, unfolding(crate::specs::Read::read_of, refusals::specs::Answers::answer))]
 pub fn read(packet: &[u8]) -> Result<MipRead, Refusal>
     ensures { mip_told result ≡ read_of packet.now }
 {
@@ -121,6 +122,7 @@ pub fn read(packet: &[u8]) -> Result<MipRead, Refusal>
 }
 
 // The addressing data of a MIP, as a part of the packet; an empty part where the packet is refused.
+#[tactic(auto, using(crate::proofs::FieldLaws::read_within, crate::proofs::FieldLaws::addressing_part), unfolding(crate::specs::Read::addressing_read, refusals::specs::Answers::answer))]
 pub fn addressing_data(packet: &[u8]) -> &[u8]
     ensures { result.now ≡ addressing_read packet.now }
 {

@@ -34,6 +34,7 @@ pub(crate) fn check_times(stamp: Steps, delay: Steps) -> Result<(), Refusal>
 }
 
 // A sum of steps less whole seconds.
+#[tactic(auto, using(crate::proofs::ModuloLaws::euclid_modulo, crate::proofs::ModuloLaws::modulo_lt))]
 fn modulo_second(sum: i64) -> Steps
     ensures { result ≡ steps (modulo sum second) }
 {
@@ -41,6 +42,7 @@ fn modulo_second(sum: i64) -> Steps
 }
 
 // When the mega-frame that a MIP points at is emitted, within its second.
+#[tactic(auto, unfolding(crate::specs::Timing::emission_of, crate::specs::Timing::emission_checks, refusals::specs::Answers::answer))]
 pub fn emission(stamp: Steps, delay: Steps, offset: i32) -> Result<Steps, Refusal>
     ensures { time_told result ≡ emission_of stamp delay offset }
 {
@@ -53,6 +55,7 @@ pub fn emission(stamp: Steps, delay: Steps, offset: i32) -> Result<Steps, Refusa
 }
 
 // How long a site holds back what it received at reception.
+#[tactic(auto, unfolding(crate::specs::Timing::extra_of, crate::specs::Timing::extra_checks, crate::specs::Timing::emission_of, crate::specs::Timing::emission_checks, refusals::specs::Answers::answer))]
 pub fn extra_delay(
     stamp: Steps,
     delay: Steps,

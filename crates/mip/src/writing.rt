@@ -17,6 +17,7 @@ fn field_too_wide(m: Mip) -> bool
 }
 
 // Refuses what no MIP holds, and too little room.
+#[tactic(auto, using(crate::proofs::FieldLaws::wide_alike), unfolding(crate::specs::Write::write_checks))]
 fn check_write(m: Mip, addressing: &[u8], room: usize) -> Result<(), Refusal>
     ensures { code result ≡ first (write_checks m addressing.now room) }
 {
@@ -53,6 +54,7 @@ fn lay_lead(out: &mut [u8], m: Mip, addressing: usize)
 }
 
 // Writes a MIP with its addressing data over the first 188 bytes of out; gives how many bytes that is.
+#[tactic(auto, unfolding(crate::specs::Write::write_of, refusals::specs::Answers::written, refusals::specs::Answers::answer))]
 pub fn write(m: Mip, addressing: &[u8], out: &mut [u8]) -> Result<u32, Refusal>
     ensures { record { answer = bytes_of result; out = out.new } ≡ write_of m addressing.now out.old }
 {

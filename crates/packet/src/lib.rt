@@ -82,6 +82,7 @@ fn pad_set(bits: u32, payload: &[u8]) -> bool
 }
 
 // The length that the packet of s at at gives itself.
+// Here and in judge a place stands beside the slice, and no part is lent: docs/STATEMENTS.md has both for any place.
 pub fn own_length(s: &[u8], at: usize) -> usize
     ensures { result ≡ size_of (drop at s.now) }
 {
@@ -113,6 +114,7 @@ pub fn check_batch(batch: &[u8]) -> Result<(), Refusal>
     ensures { code result ≡ batch_fault batch.now }
 {
     let mut at = 0;
+    // No range: each packet's own length tells where the next begins.
     while at < batch.len() {
         at += judge(batch, at)?;
     }

@@ -14,8 +14,7 @@ use Rattle.refusals.specs.Checks.{first}
 use Rattle.refusals.proofs.AnswerLaws.{answer-accepted}
 use Rattle.addressing.specs.Data.{Placed, end_of}
 use Rattle.addressing.specs.Payload.{payload_checks, payload_of}
-use Rattle.addressing.specs.Walk.{functions_for, step_in, walk_checks, refused, walk_of}
-use Rattle.addressing.specs.declared.Walked.{Walked}
+use Rattle.addressing.specs.Walk.{Walked, functions_for, step_in, walk_checks, refused, walk_of}
 use Rattle.addressing.proofs.PayloadLaws as payload
 use Rattle.addressing.proofs.DataLaws.{Rising, rising-upto, for-rising}
 use Rattle.addressing.proofs.WalkLaws.{walk-long, walk_refused}

@@ -1,15 +1,15 @@
 -- Addressing, the MIP and site timing, laid out flat, and a MIP's arguments put together.
-use Rattle.std.specs.Prelude.{ℕ, ◌^◌, ◌<◌, List, ◌∷◌, eqb, ltb, length}
+use Rattle.std.specs.Prelude.{ℕ, ◌^◌, ◌<◌, List, ◌∷◌, eqb, ltb, length, ◌≡◌, Result}
 use Rattle.refusals.specs.Checks.{Check, ◌when◌}
 use Rattle.refusals.specs.Answers.{Wrote, written}
-use Rattle.addressing.specs.declared.PayloadRead.{PayloadRead}
-use Rattle.addressing.specs.declared.Step.{Step}
-use Rattle.addressing.specs.declared.Step.TheVariants.{Given, End}
-use Rattle.addressing.specs.declared.Walked.{Walked}
+use Rattle.refusals.specs.declared.Refusal.{Refusal}
+use Rattle.addressing.specs.Payload.{PayloadRead}
+use Rattle.addressing.specs.Walk.{Step, Given, End, Walked}
+use Rattle.mip.specs.Read.{MipRead}
+use Rattle.mip.specs.Timing.{Time, time_told}
 use Rattle.mip.specs.Write.{mip_bytes, write_checks}
 use Rattle.mip.specs.declared.Mip.{Mip}
-use Rattle.mip.specs.declared.MipRead.{MipRead}
-use Rattle.mip.specs.declared.Time.{Time}
+use Rattle.mip.specs.declared.Steps.{Steps}
 use Rattle.sfn.specs.Answers.{bit_of}
 use Rattle.sfn.specs.declared.site.SfnAddressing.{SfnAddressing}
 use Rattle.sfn.specs.declared.site.SfnWalked.{SfnWalked}
@@ -68,3 +68,6 @@ mip_written count pointer periodic future stamp delay tps d out =
 
 abbrev pub time_of : Time → SfnTime
 time_of t = record { refusal = t.refusal; steps = t.steps.0 }
+
+abbrev pub ShowsTime : Result Steps Refusal → SfnTime → Type 0
+ShowsTime r t = t ≡ time_of (time_told r)

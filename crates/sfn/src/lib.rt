@@ -170,7 +170,7 @@ pub fn sfn_stamp_write(bw: u8, seconds: u64, subseconds: u32, utco: u16, out: &m
 pub fn sfn_carry(pid: u16, first_count: u8, batch: &[u8], out: &mut [u8]) -> Carried
     ensures { record { answer = result; out = out.new } ≡ carry_of pid first_count batch.now out.old }
 {
-    carry::carry(pid, first_count, batch, out)
+    carry::carry(pid, first_count, batch, out).into()
 }
 
 // C's kind of a function that is passed through; the others are their tags.
@@ -287,8 +287,8 @@ fn flag(n: u8) -> Option<bool>
     }
 }
 
-// The function that C's arguments make, where n bytes come with them: a tag like its kind, no bytes but for the kinds that
-// carry a body, and values that fit. None, for which 38 is answered, where they make none.
+// The function that C's arguments make, where n bytes come with them: a tag like its kind, no bytes but for the kinds
+// that carry a body, and values that fit. None, for which 38 is answered, where they make none.
 #[tactic(auto, unfolding(crate::specs::Making::made_of))]
 fn function_from(
     kind: u8,

@@ -2,15 +2,15 @@
 ghost use Rattle.std.specs.Prelude.{◌≡◌, ◌^◌, ◌<◌};
 ghost use Rattle.addressing.specs.Data.{house};
 ghost use Rattle.addressing.specs.Payload.{payload_of, write_of as addressing_written};
-ghost use Rattle.addressing.specs.Walk.{walk_of};
+ghost use Rattle.addressing.specs.Walk.{walk_of, step_found, answered};
 ghost use Rattle.mip.specs.Read.{read_of as mip_read};
 ghost use Rattle.mip.specs.Timing.{steps, emission_of, extra_of};
-ghost use Rattle.sfn.specs.Site.{addressing_of, step_of, walked_of, StepFits, mip_flat, mip_written, time_of};
+ghost use Rattle.sfn.specs.Site.{addressing_of, walked_of, StepFits, mip_flat, mip_written, time_of, ShowsTime};
 
-use super::{bit, count_32};
-use addressing::Step;
+use super::count_32;
+use addressing::{Given, Walked};
 use mip::{Mip, Steps};
-use refusals::Written;
+use refusals::{Refusal, Written};
 
 // What reading an addressing payload gives. Its data begins at byte 2.
 #[repr(C)]
@@ -55,44 +55,61 @@ pub struct SfnTime {
     pub steps: u32,
 }
 
+impl From<Result<Steps, Refusal>> for SfnTime {
+    ghost from_gives = { ShowsTime };
+
+    fn from(answer: Result<Steps, Refusal>) -> SfnTime {
+        match answer {
+            Ok(steps) => SfnTime {
+                refusal: 0,
+                steps: steps.0,
+            },
+            Err(refusal) => SfnTime {
+                refusal: refusal.number(),
+                steps: 0,
+            },
+        }
+    }
+}
+
 pub fn sfn_addressing_read(payload: &[u8]) -> SfnAddressing
     ensures { result ≡ addressing_of (payload_of house payload.now) }
 {
-    let p = addressing::payload_read(payload);
-    let bytes = count_32(p.bytes);
-    SfnAddressing {
-        refusal: p.refusal,
-        bytes,
+    match addressing::payload_read(payload) {
+        Ok(bytes) => SfnAddressing {
+            refusal: 0,
+            bytes: count_32(bytes),
+        },
+        Err(refusal) => SfnAddressing {
+            refusal: refusal.number(),
+            bytes: 0,
+        },
     }
 }
 
 pub fn sfn_addressing_write(addressed: &[u8], out: &mut [u8]) -> Written
     ensures { record { answer = result; out = out.new } ≡ addressing_written house addressed.now out.old }
 {
-    addressing::payload_write(addressed, out)
+    Written::from(addressing::payload_write(addressed, out))
 }
 
-// A step laid out flat.
-fn step_flat(refusal: u32, next: usize, step: Step) -> SfnWalked
-    requires { (next < 2 ^ 32) × StepFits step }
-    ensures { result ≡ step_of refusal next step }
+// A walk's answer laid out flat.
+fn walked_flat(w: Walked) -> SfnWalked
+    requires { (w.next < 2 ^ 32) × StepFits (step_found w.step) }
+    ensures { result ≡ walked_of (answered w) }
 {
-    let next = count_32(next);
-    match step {
-        Step::Given { tag, start, body } => {
-            let start = count_32(start);
-            let body = count_32(body);
-            SfnWalked {
-                refusal,
-                start,
-                body,
-                next,
-                given: 1,
-                tag,
-            }
-        }
-        Step::End => SfnWalked {
-            refusal,
+    let next = count_32(w.next);
+    match w.step {
+        Some(Given { tag, start, body }) => SfnWalked {
+            refusal: 0,
+            start: count_32(start),
+            body: count_32(body),
+            next,
+            given: 1,
+            tag,
+        },
+        None => SfnWalked {
+            refusal: 0,
             start: 0,
             body: 0,
             next,
@@ -105,28 +122,45 @@ fn step_flat(refusal: u32, next: usize, step: Step) -> SfnWalked
 pub fn sfn_walk(addressed: &[u8], transmitter: u16, place: u32) -> SfnWalked
     ensures { result ≡ walked_of (walk_of house addressed.now transmitter place) }
 {
-    let w = addressing::walk_from(addressed, transmitter, place as usize);
-    let step = w.step;
-    step_flat(w.refusal, w.next, step)
+    match addressing::walk_from(addressed, transmitter, place as usize) {
+        Ok(walked) => walked_flat(walked),
+        Err(refusal) => SfnWalked {
+            refusal: refusal.number(),
+            start: 0,
+            body: 0,
+            next: 0,
+            given: 0,
+            tag: 0,
+        },
+    }
 }
 
 pub fn sfn_mip_read(packet: &[u8]) -> SfnMip
     ensures { result ≡ mip_flat (mip_read packet.now) }
 {
-    let p = mip::read(packet);
-    let m = p.mip;
-    let addressing = count_32(p.addressing);
-    let periodic = bit(m.periodic);
-    SfnMip {
-        refusal: p.refusal,
-        stamp: m.stamp.0,
-        delay: m.delay.0,
-        tps: m.tps,
-        addressing,
-        pointer: m.pointer,
-        future: m.future,
-        count: m.count,
-        periodic,
+    match mip::read(packet) {
+        Ok(p) => SfnMip {
+            refusal: 0,
+            stamp: p.mip.stamp.0,
+            delay: p.mip.delay.0,
+            tps: p.mip.tps,
+            addressing: count_32(p.addressing),
+            pointer: p.mip.pointer,
+            future: p.mip.future,
+            count: p.mip.count,
+            periodic: u8::from(p.mip.periodic),
+        },
+        Err(refusal) => SfnMip {
+            refusal: refusal.number(),
+            stamp: 0,
+            delay: 0,
+            tps: 0,
+            addressing: 0,
+            pointer: 0,
+            future: 0,
+            count: 0,
+            periodic: 0,
+        },
     }
 }
 
@@ -145,15 +179,9 @@ pub fn sfn_mip_write(
 {
     if 1 < periodic {
         if 163 < addressed.len() {
-            return Written {
-                refusal: refusals::MIP_ADDRESSING_OVER_163,
-                bytes: 0,
-            };
+            return Written::from(Err(Refusal::MipAddressingOver163));
         }
-        return Written {
-            refusal: refusals::TOO_WIDE_OR_UNFIT_STATE,
-            bytes: 0,
-        };
+        return Written::from(Err(Refusal::TooWideOrUnfitState));
     }
     let m = Mip {
         count,
@@ -164,25 +192,17 @@ pub fn sfn_mip_write(
         delay: Steps(delay),
         tps,
     };
-    mip::write(m, addressed, out)
+    Written::from(mip::write(m, addressed, out))
 }
 
 pub fn sfn_emission(stamp: u32, delay: u32, offset: i32) -> SfnTime
     ensures { result ≡ time_of (emission_of (steps stamp) (steps delay) offset) }
 {
-    let t = mip::emission(Steps(stamp), Steps(delay), offset);
-    SfnTime {
-        refusal: t.refusal,
-        steps: t.steps.0,
-    }
+    SfnTime::from(mip::emission(Steps(stamp), Steps(delay), offset))
 }
 
 pub fn sfn_extra_delay(stamp: u32, delay: u32, offset: i32, reception: u32) -> SfnTime
     ensures { result ≡ time_of (extra_of (steps stamp) (steps delay) offset (steps reception)) }
 {
-    let t = mip::extra_delay(Steps(stamp), Steps(delay), offset, Steps(reception));
-    SfnTime {
-        refusal: t.refusal,
-        steps: t.steps.0,
-    }
+    SfnTime::from(mip::extra_delay(Steps(stamp), Steps(delay), offset, Steps(reception)))
 }

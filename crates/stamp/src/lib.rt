@@ -24,7 +24,7 @@ pub struct Stamp {
     pub utco: u16,
 }
 
-// What a stamp says of the time of emission: the second too, the place within any second, or nothing. C sees the numbers.
+// What a stamp says of the time of emission: the second too, the place within any second, or nothing; to C, a number.
 #[derive(Clone, Copy, Debug, PartialEq, Eq)]
 pub enum Kind {
     Absolute = 0,

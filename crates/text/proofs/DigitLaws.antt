@@ -187,11 +187,11 @@ digits_step : (n : ℕ) (ds : List ℕ) → 10 ≤ n → ds ≡ digits (n / 10) 
 digits_step n ds h e = rw (e, digits_more (n / 10) (omega arith), digits_more n (omega arith), spell-more n (omega arith)) refl
 
 -- A theorem: what `{}` prints of a number of 64 bits are its digits
-pub decimal-digits : (n : ℕ) → n < 2 ^ 64 → decimal n ≡ digits n
-decimal-digits = decimal_by_steps (λ n ds. ds ≡ digits n) digits_one digits_step
+pub decimal_is_digits : (n : ℕ) → n < 2 ^ 64 → decimal n ≡ digits n
+decimal_is_digits = decimal_by_steps (λ n ds. ds ≡ digits n) digits_one digits_step
 
 -- and of a signed one of 64 bits
-pub decimal-signed : (z : ℤ) → mag z < 2 ^ 63 → signed_decimal z ≡ signed z
+pub signed_decimal_is_signed : (z : ℤ) → mag z < 2 ^ 63 → signed_decimal z ≡ signed z
 unfolding signed
-decimal-signed (pos n) h = decimal-digits n (omega arith)
-decimal-signed (negsuc k) h = ap (λ (l : List ℕ). minus ∷ l) (decimal-digits (suc k) (omega arith))
+signed_decimal_is_signed (pos n) h = decimal_is_digits n (omega arith)
+signed_decimal_is_signed (negsuc k) h = ap (λ (l : List ℕ). minus ∷ l) (decimal_is_digits (suc k) (omega arith))

@@ -2,6 +2,7 @@
 // nothing of it is laid.
 #![tactic(auto)]
 
+ghost use Rattle.std.specs.Prelude.{◌≡◌};
 ghost use Rattle.text.specs.Digits.{digits, signed};
 ghost use Rattle.text.specs.Laid.{word, Appends};
 
@@ -15,6 +16,15 @@ pub struct Text<'a> {
 }
 
 impl Text<'_> {
+    // A buffer that nothing is laid in yet.
+    pub fn new(lines: &mut [u8]) -> Text<'_>
+        ensures same_reference { result.lines.ghost_name ≡ lines.entry.ghost_name }
+        ensures lines { result.lines.now ≡ lines.old }
+        ensures at { result.at ≡ 0 }
+    {
+        Text { lines, at: 0 }
+    }
+
     // Appends a text.
     pub fn append(&mut self, text: &[u8])
         ensures { Appends text.now self.old self.new }
@@ -27,6 +37,7 @@ impl Text<'_> {
     }
 
     // Appends a number in decimal. It and signed are no one generic function: each promises a definition of its own.
+    #[tactic(auto, using(crate::proofs::DigitLaws::decimal_is_digits))]
     pub fn number(&mut self, n: u64)
         ensures { Appends (digits n) self.old self.new }
     {
@@ -34,6 +45,7 @@ impl Text<'_> {
     }
 
     // Appends a number in decimal, with a minus sign before a negative one.
+    #[tactic(auto, using(crate::proofs::DigitLaws::signed_decimal_is_signed))]
     pub fn signed(&mut self, z: i64)
         ensures { Appends (signed z) self.old self.new }
     {

@@ -44,14 +44,20 @@ fn show(rt: &impl Print, name: &str, bytes: &[u8]) -> io::Result<()> {
 }
 
 fn main(rt: HostRuntime) -> io::Result<()> {
-    show(&rt, "empty", b"")?;
-    show(&rt, "zero", &[0x00])?;
-    show(&rt, "check", b"123456789")?;
-    show(&rt, "all-ff", &[0xff, 0xff, 0xff, 0xff])?;
-    show(&rt, "pat", &PAT)?;
-    show(&rt, "pmt-video", &PMT_VIDEO)?;
-    show(&rt, "pmt-video-audio", &PMT_VIDEO_AUDIO)?;
-    show(&rt, "timestamp-packet", &TIMESTAMP)?;
-    show(&rt, "balancing-packet", &BALANCING)?;
-    show(&rt, "padded-packet", &PADDED)
+    let table: [(&str, &[u8]); 10] = [
+        ("empty", b""),
+        ("zero", &[0x00]),
+        ("check", b"123456789"),
+        ("all-ff", &[0xff, 0xff, 0xff, 0xff]),
+        ("pat", &PAT),
+        ("pmt-video", &PMT_VIDEO),
+        ("pmt-video-audio", &PMT_VIDEO_AUDIO),
+        ("timestamp-packet", &TIMESTAMP),
+        ("balancing-packet", &BALANCING),
+        ("padded-packet", &PADDED),
+    ];
+    for (name, bytes) in table {
+        show(&rt, name, bytes)?;
+    }
+    Ok(())
 }

@@ -9,10 +9,9 @@ use Rattle.fields.specs.Numbers.{bytes}
 use Rattle.fields.specs.Parts.{overlay, stored_at, copied_to}
 use Rattle.fields.proofs.PartLaws.{part-whole, length-overlay, overlay-next, stored-at, copied-to}
 use Rattle.refusals.specs.Checks.{first}
-use Rattle.refusals.proofs.AnswerLaws.{written-exit}
 use Rattle.addressing.specs.Data.{house}
 use Rattle.addressing.proofs.PayloadLaws.{Writable, writable, write-accepted}
-use Rattle.addressing.specs.Payload.{write_checks, payload_bytes, write_of}
+use Rattle.addressing.specs.Payload.{write_checks, payload_bytes}
 use Rattle.addressing.proofs.payload_write.Goals as goal
 use Rattle.addressing.proofs.payload_write.Goals.{In_ok-check_write}
 
@@ -47,10 +46,6 @@ laid d out h room o1 o2 e1 e2 =
     ∙ copied-to 2 (length d) d 0 (overlay 0 front out) (omega arith) (omega arith)
     ∙ ap (λ (l : List ℕ). overlay 2 l (overlay 0 front out)) (part-whole d)
     ∙ overlay-next 0 front d out 2 (omega arith) (omega arith)
-
-pub returns-in_err-check_write : goal.returns-in_err-check_write
-unfolding write_of
-returns-in_err-check_write c = written-exit _ _ _ _ _ c.from_residual.ensures.1 c.in_err-check_write.ensures
 
 pub overflow_cast-result : goal.overflow_cast-result
 overflow_cast-result c = omega (arith, (well (goal.at.overflow_cast-result c).In_ok-check_write).short)

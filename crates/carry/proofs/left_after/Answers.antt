@@ -1,51 +1,63 @@
 -- `carry::left_after` meets its contract.
-use borrow.Author.Rules.{rules}
-use lib.ListN.{drop}
-use lib.Seq.{drop-drop}
-use mathlib.Core.Path.{◌≡◌, sym, ap, ◌∙◌}
-use mathlib.Core.List.{List}
-use Prim.Native.Nat.{ℕ, ◌+◌, ◌-◌, ◌<◌}
-use native.Mathlib.Omega.{arith}
+use Rattle.std.proofs.Common.{◌≡◌, ℕ, ◌+◌, ◌-◌, ◌<◌, ◌≤◌, List, drop, sym, ap, ◌∙◌, arith, rules, drop-drop}
+use borrow.Author.Tests.{leb-true, leb-false}
+use lib.Dec.{leb}
+use Rattle.fields.proofs.Cases.{cases}
+use Rattle.fields.proofs.NumberLaws.{bytes_drop}
 use Rattle.packet.specs.Layout.{size_of}
-use Rattle.packet.proofs.LayoutLaws.{size-least}
+use Rattle.packet.proofs.LayoutLaws.{size-least, size-most}
 use Rattle.carry.proofs.ByteLaws.{left-none, left-past, left_in}
 use Rattle.carry.specs.OnBytes.{left_of}
 use Rattle.carry.proofs.left_after.Goals as goal
 
-some : (n : ℕ) → (n ≡ 0 → ⊥) → 0 < n
-some n h = omega arith
+-- one packet on, from a place before n
+module _ (b : List ℕ) (n end size : ℕ) (e : size ≡ size_of (drop end b)) (h : end < n) (i : left_of (n - end) (drop end b) ≡ left_of n b) where
+  -- it ends at n or behind it
+  over : n ≤ end + size → end + size - n ≡ left_of n b
+  over k =
+      let m : end + size - n ≡ size_of (drop end b) - (n - end) = omega arith in
+      m ∙ sym (left_in (n - end) (drop end b) (omega arith) (omega arith)) ∙ i
 
--- a whole packet goes
-past : (batch : List ℕ) (at left size : ℕ) → size ≡ size_of (drop at batch) → size < left → left_of (left - size) (drop (at + size) batch) ≡ left_of left (drop at batch)
-past batch at left size e h =
-    ap (left_of (left - size)) (sym (drop-drop size at batch))
-    ∙ ap (λ (k : ℕ). left_of (left - k) (drop k (drop at batch))) e
-    ∙ sym (left-past left (drop at batch) (rw (← e) h))
+  -- it ends before n
+  past : end + size < n → left_of (n - (end + size)) (drop (end + size) b) ≡ left_of n b
+  past k =
+      let m : n - (end + size) ≡ n - end - size = omega arith in
+      ap (λ (j : ℕ). left_of j (drop (end + size) b)) m
+      ∙ ap (left_of (n - end - size)) (sym (drop-drop size end b))
+      ∙ ap (λ (j : ℕ). left_of (n - end - j) (drop j (drop end b))) e
+      ∙ sym (left-past (n - end) (drop end b) (omega arith))
+      ∙ i
 
-pub loop-size-smaller : goal.loop-size-smaller
-loop-size-smaller c =
-    let l = c.loop-size in
-    let a = c.args in
-    omega (arith, l.invariant.2, size-least (drop l.at a.batch.now))
+  -- or just there
+  upto : end + size ≤ n → left_of (n - (end + size)) (drop (end + size) b) ≡ left_of n b
+  upto k =
+      cases (leb n (end + size))
+      (λ t.
+      let m : n - (end + size) ≡ 0 = omega (arith, k, leb-true _ _ t) in
+      ap (λ (j : ℕ). left_of j (drop (end + size) b)) m ∙ left-none (drop (end + size) b) ∙ (let z : 0 ≡ end + size - n = omega arith in z) ∙ over (leb-true _ _ t))
+      (λ t. past (leb-false _ _ t))
 
-pub loop-size-preserved : goal.loop-size-preserved
-loop-size-preserved c =
-    let l = c.loop-size in
-    let a = c.args in
-    let b = a.batch.now in
-    let s = l.invariant.2 in
-    (search rules, search rules, c.own_length-size-in-loop-size.ensures, past b l.at l.left l.size s (omega arith) ∙ l.invariant.3)
+pub overflow_add-end : goal.overflow_add-end
+overflow_add-end c =
+    let b = c.args.batch.now in
+    omega (arith, c.own_length-end.ensures, size-most (drop c.loop-end.end b) (bytes_drop c.loop-end.end b (search rules)), c.requires)
 
-pub returns-then-left-eq0 : goal.returns-then-left-eq0
-returns-then-left-eq0 c =
-    let l = c.loop-size in
-    let a = c.args in
-    sym (sym l.invariant.3 ∙ ap (λ (k : ℕ). left_of k (drop l.at a.batch.now)) c.if-left-eq0.true ∙ left-none (drop l.at a.batch.now))
+pub loop-end-init : goal.loop-end-init
+loop-end-init c =
+    let b = c.args.batch.now in
+    let n = c.args.bytes in
+    (λ h. let z : n - 0 ≡ n = omega arith in ap (λ (k : ℕ). left_of k b) z, λ h. let z : n ≡ 0 = omega arith in let y : 0 - n ≡ 0 = omega arith in y ∙ sym (left-none b) ∙ ap (λ (k : ℕ). left_of k b) (sym z))
+
+pub loop-end-smaller : goal.loop-end-smaller
+loop-end-smaller c = omega (arith, c.own_length-end.ensures, size-least (drop c.loop-end.end c.args.batch.now))
+
+pub loop-end-preserved : goal.loop-end-preserved
+loop-end-preserved c =
+    let l = c.loop-end in
+    let b = c.args.batch.now in
+    let h : l.end < c.args.bytes = c.loop-end-test.true in
+    let i = l.invariant.0 (omega arith) in
+    (upto b c.args.bytes l.end _ c.own_length-end.ensures h i, over b c.args.bytes l.end _ c.own_length-end.ensures h i)
 
 pub returns : goal.returns
-returns c =
-    let l = c.loop-size in
-    let a = c.args in
-    let b = a.batch.now in
-    let s = l.invariant.2 in
-    sym (sym l.invariant.3 ∙ left_in l.left (drop l.at b) (some l.left c.if-left-eq0.false) (rw (← s) (search rules)) ∙ ap (λ (k : ℕ). k - l.left) (sym s))
+returns c = c.loop-end.invariant.1 (omega arith)

@@ -1,33 +1,19 @@
--- `carry::needed` meets its contract.
-use lib.ListN.{length, drop}
-use mathlib.Core.Path.{◌≡◌, ap}
-use native.Mathlib.Omega.{arith}
-use Rattle.carry.proofs.ByteLaws.{load_one, loads-end}
-use Rattle.carry.specs.OnBytes.{loads_from}
+-- `carry::needed` meets its contract: no more loads come than there are bytes.
+use Rattle.std.proofs.Common.{length, ap, ◌<◌, arith, rules}
+use Rattle.std.proofs.lemmas.Iterator.Consumers.{YieldsList-from_first, count_from_yields_List}
+use mathlib.Core.Logic.{inl}
+use Rattle.carry.proofs.ByteLaws.{loads-few}
+use Rattle.carry.specs.OnBytes.{loads_from, coming, load_in}
 use Rattle.carry.proofs.needed.Goals as goal
 
-pub overflow_add-at : goal.overflow_add-at
-overflow_add-at c =
-    let l = c.loop-at in
-    let a = c.args in
-    omega (arith, load_one a.batch.now l.at l.r (omega arith) _ c.next_load-p.ensures)
-
-pub loop-at-smaller : goal.loop-at-smaller
-loop-at-smaller c =
-    let l = c.loop-at in
-    let a = c.args in
-    omega (arith, load_one a.batch.now l.at l.r (omega arith) _ c.next_load-p.ensures)
-
-pub loop-at-preserved : goal.loop-at-preserved
-loop-at-preserved c =
-    let l = c.loop-at in
-    let a = c.args in
-    let o = load_one a.batch.now l.at l.r (omega arith) _ c.next_load-p.ensures in
-    (omega (arith, o), omega (arith, o), omega (arith, l.invariant.2, ap length o.2))
+pub count-requires-clause-fits : goal.count-requires-clause-fits
+count-requires-clause-fits c =
+    let b = c.args.batch.now in
+    let k : length b < 18446744073709551616 = search rules in
+    inl (omega (arith, ap length c.of.ensures, loads-few 0 b, k))
 
 pub returns : goal.returns
 returns c =
-    let l = c.loop-at in
-    let a = c.args in
-    let e : length (loads_from l.r (drop l.at a.batch.now)) ≡ 0 = loads-end a.batch.now l.at l.r (omega arith) in
-    (omega (arith, l.invariant.2), omega arith)
+    let b = c.args.batch.now in
+    let e = count_from_yields_List _ _ c.count.ensures.ran (YieldsList-from_first load_in coming (loads_from 0 b) c.of.ensures) in
+    (e, omega (arith, e, loads-few 0 b))

@@ -14,8 +14,7 @@ use Rattle.refusals.proofs.CheckLaws.{none-holds, not_found}
 use Rattle.addressing.specs.Data.{house, Placed, end_of, fault_of}
 use Rattle.addressing.specs.Groups.{tags_and_bodies}
 use Rattle.addressing.specs.Walk as addressing
-use Rattle.addressing.specs.Walk.{functions_for, given, ended, step_in, walk_checks, refused, walk_of, unless_end}
-use Rattle.addressing.specs.declared.Walked.{Walked}
+use Rattle.addressing.specs.Walk.{functions_for, given, ended, step_in, walk_checks, refused, walk_of, unless_end, Walked}
 use Rattle.addressing.proofs.DataLaws.{Rising, for-rising}
 use Rattle.addressing.proofs.WalkLaws.{walk-all}
 use Rattle.addressing.proofs.GroupLaws.{same-groups}

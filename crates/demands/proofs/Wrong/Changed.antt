@@ -23,11 +23,11 @@ use Rattle.functions.specs.Read as function
 use Rattle.functions.specs.declared.Function.{Function}
 use Rattle.functions.specs.Read.{FunctionRead}
 use Rattle.addressing.specs.Data.{entries_by, entries_in, fault_in, fault_of}
-use Rattle.addressing.specs.declared.PayloadRead.{PayloadRead}
-use Rattle.addressing.specs.declared.Walked.{Walked}
+use Rattle.addressing.specs.Payload.{PayloadRead}
+use Rattle.addressing.specs.Walk.{Walked}
 use Rattle.mip.specs.Layout as mip_layout
 use Rattle.mip.specs.Read as mip
-use Rattle.mip.specs.declared.MipRead.{MipRead}
+use Rattle.mip.specs.Read.{MipRead}
 use Rattle.transport.specs.Header.{header_field, payload_at}
 use Rattle.transport.specs.Load.{plain, start, head_bytes, transport_of}
 use Rattle.transport.specs.Tests.{pid_outside, field_long, pointer_beyond, transport_checks}

@@ -20,9 +20,8 @@ use Rattle.functions.specs.declared.Function.{Function}
 use Rattle.functions.specs.declared.Function.TheVariants.{Power}
 use Rattle.addressing.specs.Data.{house, entries_by, entries_in, group_checks, function_checks, function_at, fault_in, fault_of}
 use Rattle.addressing.specs.Payload as addressing
-use Rattle.addressing.specs.Walk.{reached, given, walk_checks, refused, walk_of}
-use Rattle.addressing.specs.declared.PayloadRead.{PayloadRead}
-use Rattle.addressing.specs.declared.Walked.{Walked}
+use Rattle.addressing.specs.Walk.{reached, given, walk_checks, refused, walk_of, Walked}
+use Rattle.addressing.specs.Payload.{PayloadRead}
 use Rattle.transport.specs.Tests.{pid_outside}
 use Rattle.gather.specs.State.{fresh, unfit, gather_checks}
 use Rattle.gather.specs.Gather as gathering

@@ -35,12 +35,12 @@ use Rattle.functions.specs.Read.{FunctionRead}
 use Rattle.addressing.specs.Data.{entries_by, entries_in, functions_of, fault_in, fault_of}
 use Rattle.addressing.specs.Payload as addressing
 use Rattle.addressing.specs.Walk as walking
-use Rattle.addressing.specs.declared.PayloadRead.{PayloadRead}
-use Rattle.addressing.specs.declared.Walked.{Walked}
+use Rattle.addressing.specs.Payload.{PayloadRead}
+use Rattle.addressing.specs.Walk.{Walked}
 use Rattle.mip.specs.Read as mip
 use Rattle.mip.specs.Timing as timing
-use Rattle.mip.specs.declared.MipRead.{MipRead}
-use Rattle.mip.specs.declared.Time.{Time}
+use Rattle.mip.specs.Read.{MipRead}
+use Rattle.mip.specs.Timing.{Time}
 use Rattle.transport.specs.Header.{header_field, payload_at, carried_at, carried_by as carried_bytes}
 use Rattle.transport.specs.Load.{Load, plain, start, head_bytes, transport_of}
 use Rattle.transport.specs.Tests.{pid_outside}

@@ -6,10 +6,7 @@ use Rattle.refusals.specs.Checks.{first}
 use Rattle.addressing.specs.Data.{house}
 use Rattle.addressing.specs.Payload.{payload_checks, data_of, write_checks, payload_bytes}
 use Rattle.addressing.specs.Groups.{heard_groups}
-use Rattle.addressing.specs.Walk.{functions_for, given, ended, step_in, walk_checks, unless_end}
-use Rattle.addressing.specs.declared.Step.{Step}
-use Rattle.addressing.specs.declared.Step.TheVariants.{Given, End}
-use Rattle.addressing.specs.declared.Walked.{Walked}
+use Rattle.addressing.specs.Walk.{functions_for, given, ended, step_in, walk_checks, unless_end, Step, Given, End, Walked}
 use Rattle.demands.specs.Library.{Library}
 use Rattle.demands.specs.Demand2.Writing.{laid, written_by}
 

@@ -2,18 +2,17 @@
 -- code divides by the weights that the formats give their fields.
 use borrow.Author.Rules.{rules}
 use lib.ListN.{length}
-use mathlib.Core.Path.{◌≡◌, refl, sym, ap, ◌∙◌}
+use mathlib.Core.Path.{◌≡◌, sym, ap, ◌∙◌}
 use mathlib.Core.List.{List}
 use Prim.Native.Nat.{ℕ, ◌*◌, ◌/◌, ◌%◌, ◌^◌, ◌≤◌, ◌<◌}
 use native.Mathlib.Nat.{div-one}
 use native.Mathlib.Omega.{arith}
 use mir.Syntax.{w16, w32}
-use mir.Val.{to_z}
 use mir.ValLaws.{to_z-of_z}
 use Rattle.fields.specs.Formats.{unpack}
 use Rattle.fields.specs.Numbers.{number}
 use Rattle.fields.specs.Signed.{signed}
-use Rattle.functions.proofs.BodyLaws.{number_small, number-whole}
+use Rattle.functions.proofs.BodyLaws.{number_small, number-whole, as_signed}
 use Rattle.functions.proofs.KindLaws.{sized}
 use Rattle.functions.specs.Tags.{exactly, size_of, cell, bandwidth}
 use Rattle.functions.specs.Function.{field, is_set, function_of}
@@ -52,11 +51,6 @@ signed_24-requires c = below (goal.at.signed_24-requires c).After-number_at-v 3 
 
 pub overflow_cast-result : goal.overflow_cast-result
 overflow_cast-result c = record { fits = below (goal.at.overflow_cast-result c).After-number_at-v 2 (ap size_of c.in-2.is) (omega arith) }
-
--- what the library makes of 16 bits
-as_signed : (n : ℕ) → to_z w16 n ≡ signed 16 n
-unfolding signed
-as_signed n = refl
 
 pub returns-in-0 : goal.returns-in-0
 unfolding function_of

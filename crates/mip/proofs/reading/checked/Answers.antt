@@ -1,142 +1,88 @@
--- `mip::reading::checked` meets its contract: a chain of early returns in the order of the definition's list. Past the
--- test of section_length the addressing data and the CRC lie within the packet.
+-- `mip::reading::checked` meets its contract: a chain of early returns in the order of the definition's list.
 use borrow.Author.Tests.{eq-eqb, ne_eqb}
-use lib.ListN.{length, take, drop}
 use mathlib.Core.Path.{◌≡◌, sym, ap, ◌∙◌}
-use mathlib.Core.Bool.{not}
+use mathlib.Core.Bool.{false, not}
 use mathlib.Core.List.{List, [], ◌∷◌}
 use Prim.Native.Nat.{ℕ, ◌+◌, ◌-◌}
+use lib.ListN.{length, take, drop}
 use Rattle.addressing.specs.Data.{Fault, house, fault_of, fault}
-use Rattle.addressing.proofs.ExitLaws.{code-exit}
+use Rattle.refusals.proofs.AnswerLaws.{code-exit}
 use Rattle.crc.specs.Crc.{crc_holds}
-use Rattle.refusals.specs.Checks.{Check, ◌when◌, first}
+use Rattle.refusals.specs.Checks.{◌when◌, first}
 use Rattle.refusals.proofs.CheckLaws.{Clear, first-at, first-none, first-front, none-holds}
 use Rattle.refusals.proofs.NumberLaws.{number-not-0}
-use Rattle.mip.proofs.FieldLaws.{header-judged, crc-part, stuffing-part, addressing-part}
-use Rattle.mip.specs.Read.{parameter, addressing_length, addressing_of, section_wrong, crc_wrong, stuffing_wrong, not_all_ones, read_checks, mip_of, lead_of}
-use Rattle.mip.specs.Timing.{time_checks, steps}
+use Rattle.mip.proofs.FieldLaws.{header_judged, crc_part, stuffing_part, addressing_part}
+use Rattle.mip.specs.Read.{section_wrong, crc_wrong, stuffing_wrong, not_all_ones, addressing_length, addressing_of, read_checks, mip_of, lead_of}
+use Rattle.mip.specs.Timing.{time_checks}
 use Rattle.mip.specs.declared.reading.Lead.{Lead}
 use Rattle.mip.proofs.reading.checked.Goals as goal
-use Rattle.mip.proofs.reading.checked.Goals.{After-check, After-holds, After-lead_of-lead, After-section_wrong, After-stuffing_wrong, Else-lead-ne-FIXED, Else-lead-ne0, Else-lead-ne71, Else-not-holds, Else-section_wrong, Else-stuffing_wrong, In_ok-check_times}
+use Rattle.mip.proofs.reading.checked.Goals.{After-check, After-from-end, After-holds, After-lead_of-lead, After-stuffing_wrong, Else-stuffing_wrong, In_ok-check_times}
 
-abbrev to2 : Else-lead-ne-FIXED → Else-lead-ne71
-to2 c = (goal.at.Else-lead-ne-FIXED c).Else-lead-ne71
+-- what is passed, of the packet whose fields were read
+module _ (p : List ℕ) (l : Lead) (read : l ≡ lead_of p) (size : length p ≡ 188) where
+  past1 : Clear 1 (read_checks p)
+  unfolding read_checks
+  past1 = (tt, ap not (eq-eqb _ _ size))
 
-abbrev to3 : Else-lead-ne0 → Else-lead-ne-FIXED
-to3 c = (goal.at.Else-lead-ne0 c).Else-lead-ne-FIXED
+  module _ (sync : l.sync ≡ 0x47) where
+    past2 : Clear 2 (read_checks p)
+    unfolding read_checks
+    past2 = (past1, ap not (eq-eqb _ _ (sym (ap (λ (x : Lead). x.sync) read) ∙ sync)))
 
-abbrev to4 : Else-section_wrong → Else-lead-ne0
-to4 c = (goal.at.Else-section_wrong c).Else-lead-ne0
+    module _ (fixed : l.fixed ≡ 0x6_0151) where
+      past3 : Clear 3 (read_checks p)
+      unfolding read_checks
+      past3 = (past2, header_judged p ∙ ap not (eq-eqb _ _ (sym (ap (λ (x : Lead). x.fixed) read) ∙ fixed)))
 
-abbrev to5 : Else-not-holds → Else-section_wrong
-to5 c = (goal.at.Else-not-holds c).Else-section_wrong
+      module _ (id : l.id ≡ 0) where
+        past4 : Clear 4 (read_checks p)
+        unfolding read_checks
+        past4 = (past3, ap not (eq-eqb _ _ (sym (ap (λ (x : Lead). x.id) read) ∙ id)))
 
-abbrev to6 : In_ok-check_times → Else-not-holds
-to6 c = (goal.at.In_ok-check_times c).Else-not-holds
+        module _ (section : section_wrong l.section l.addressing ≡ false) where
+          past5 : Clear 5 (read_checks p)
+          unfolding read_checks
+          past5 = (past4, sym (ap (λ (x : Lead). section_wrong x.section x.addressing) read) ∙ section)
 
-abbrev to8 : Else-stuffing_wrong → In_ok-check_times
-to8 c = (goal.at.Else-stuffing_wrong c).In_ok-check_times
+          module _ (crc : crc_wrong p ≡ false) where
+            past6 : Clear 6 (read_checks p)
+            unfolding read_checks
+            past6 = (past5, crc)
 
--- the call that read the fields, and the packet that they are read from
-abbrev fields2 : Else-lead-ne71 → After-lead_of-lead
-fields2 c = (goal.at.Else-lead-ne71 c).After-lead_of-lead
+            -- what the test of the times says is the next two lines
+            abbrev times : ℕ
+            times = first (time_checks l.mip.stamp l.mip.delay)
 
-abbrev fields3 : Else-lead-ne-FIXED → After-lead_of-lead
-fields3 c = fields2 (to2 c)
+            times-refused : (n : ℕ) → n ≡ times → (n ≡ 0 → ⊥) → n ≡ first (read_checks p)
+            unfolding read_checks mip_of
+            times-refused n e h =
+                let q = past6 in
+                let f = e ∙ ap (λ (x : Lead). first (time_checks x.mip.stamp x.mip.delay)) read in
+                f
+                ∙ sym (rw (q.0.0.0.0.0.1, q.0.0.0.0.1, q.0.0.0.1, q.0.0.1, q.0.1, q.1)
+                (first-front (time_checks (lead_of p).mip.stamp (lead_of p).mip.delay) (35 when stuffing_wrong p ∷ fault house (addressing_of p) ∷ []) (λ z. h (f ∙ z))))
 
-abbrev fields4 : Else-lead-ne0 → After-lead_of-lead
-fields4 c = fields3 (to3 c)
+            past8 : 0 ≡ times → Clear 8 (read_checks p)
+            unfolding read_checks mip_of
+            past8 e =
+                let n = none-holds (time_checks (lead_of p).mip.stamp (lead_of p).mip.delay) tt (sym (ap (λ (x : Lead). first (time_checks x.mip.stamp x.mip.delay)) read) ∙ sym e) in
+                ((past6, n.0), n.1.0)
 
-abbrev fields5 : Else-section_wrong → After-lead_of-lead
-fields5 c = fields4 (to4 c)
+-- the fields, the length and the CRC, by what the calls said
+lead-read : (c : After-lead_of-lead) → c.lead_of-lead.result ≡ lead_of c.args.packet.now
+lead-read c = c.lead_of-lead.ensures ∙ ap lead_of c.in-Some.ensures.cases.same
 
-abbrev fields6 : Else-not-holds → After-lead_of-lead
-fields6 c = fields5 (to5 c)
+length-read : (c : After-from-end) → c.from-end.result ≡ addressing_length c.args.packet.now
+length-read c =
+    c.from-end.ensures ∙ ap (λ (l : Lead). l.addressing) (lead-read (goal.at.After-from-end c).After-lead_of-lead)
 
-abbrev fields8 : In_ok-check_times → After-lead_of-lead
-fields8 c = fields6 (to6 c)
-
-abbrev packet : After-lead_of-lead → List ℕ
-packet c = c.args.packet.now
-
-abbrev length-read : After-lead_of-lead → ℕ
-length-read c = c.lead_of-lead.result.addressing
-
-abbrev checks : After-lead_of-lead → List Check
-checks c = read_checks (packet c)
-
-lead_is : (c : After-lead_of-lead) → c.lead_of-lead.result ≡ lead_of (packet c)
-lead_is c = c.lead_of-lead.ensures ∙ ap lead_of c.in-Some.ensures.cases.same
-
-length-is : (c : After-lead_of-lead) → length-read c ≡ addressing_length (packet c)
-length-is c = ap (λ (f : Lead). f.addressing) (lead_is c)
-
-section-judged : (c : After-section_wrong) → c.section_wrong.result ≡ section_wrong (parameter 1 (packet (fields4 (goal.at.After-section_wrong c).Else-lead-ne0))) (addressing_length (packet (fields4 (goal.at.After-section_wrong c).Else-lead-ne0)))
-section-judged c =
-    c.section_wrong.ensures ∙ ap (λ (f : Lead). section_wrong f.section f.addressing) (lead_is (fields4 (goal.at.After-section_wrong c).Else-lead-ne0))
-
-crc-judged : (c : After-holds) → not c.holds.result ≡ crc_wrong (packet (fields5 (goal.at.After-holds c).Else-section_wrong))
+crc-judged : (c : After-holds) → crc_wrong c.args.packet.now ≡ not c.holds.result
 crc-judged c =
-    let f = fields5 (goal.at.After-holds c).Else-section_wrong in
-    ap not (c.holds.ensures ∙ ap crc_holds (crc-part (packet f) c.from-end.result (c.from-end.ensures ∙ length-is f)))
+    ap not (ap crc_holds (sym (crc_part c.args.packet.now _ (length-read (goal.at.After-holds c).After-from-end))) ∙ sym c.holds.ensures)
 
-stuffing-judged : (c : After-stuffing_wrong) → c.stuffing_wrong.result ≡ stuffing_wrong (packet (fields8 (goal.at.After-stuffing_wrong c).In_ok-check_times))
+stuffing-judged : (c : After-stuffing_wrong) → stuffing_wrong c.args.packet.now ≡ c.stuffing_wrong.result
 stuffing-judged c =
-    let f = fields8 (goal.at.After-stuffing_wrong c).In_ok-check_times in
-    c.stuffing_wrong.ensures ∙ ap not_all_ones (stuffing-part (packet f) c.from-end.result (c.from-end.ensures ∙ length-is f))
-
--- what the check of the data said, x, is said of the packet's addressing data
-data-judged : (c : Else-stuffing_wrong) (x : Fault) → x ≡ fault_of house (take (21 + c.from-end.result - 21) (drop 21 (packet (fields8 (to8 c))))) → x.refusal ≡ (fault_of house (addressing_of (packet (fields8 (to8 c))))).refusal
-data-judged c x e =
-    let f = fields8 (to8 c) in
-    ap (λ (y : Fault). y.refusal) (e ∙ ap (fault_of house) (addressing-part (packet f) c.from-end.result (c.from-end.ensures ∙ length-is f)))
-
--- and what was said of the times
-times-judged : (c : Else-not-holds) → first (time_checks (fields6 c).lead_of-lead.result.mip.stamp (fields6 c).lead_of-lead.result.mip.delay) ≡ first (time_checks (steps (parameter 5 (packet (fields6 c)))) (steps (parameter 6 (packet (fields6 c)))))
-unfolding mip_of
-times-judged c = ap (λ (f : Lead). first (time_checks f.mip.stamp f.mip.delay)) (lead_is (fields6 c))
-
--- as an array it is whole
-in_whole : (c : After-lead_of-lead) → length (packet c) ≡ 188
-in_whole c = c.in-Some.ensures.cases.long
-
-past1 : (c : After-lead_of-lead) → Clear 1 (checks c)
-unfolding read_checks
-past1 c = (tt, ap not (eq-eqb _ _ (in_whole c)))
-
-past2 : (c : Else-lead-ne71) → Clear 2 (checks (fields2 c))
-unfolding read_checks
-past2 c =
-    (past1 (fields2 c), ap not (eq-eqb _ _ (sym (ap (λ (f : Lead). f.sync) (lead_is (fields2 c))) ∙ c.if-lead-ne71.false)))
-
-past3 : (c : Else-lead-ne-FIXED) → Clear 3 (checks (fields3 c))
-unfolding read_checks
-past3 c =
-    (past2 (to2 c), header-judged (packet (fields3 c)) ∙ ap not (eq-eqb _ _ (sym (ap (λ (f : Lead). f.fixed) (lead_is (fields3 c))) ∙ c.if-lead-ne-FIXED.false)))
-
-past4 : (c : Else-lead-ne0) → Clear 4 (checks (fields4 c))
-unfolding read_checks
-past4 c =
-    (past3 (to3 c), ap not (eq-eqb _ _ (sym (ap (λ (f : Lead). f.id) (lead_is (fields4 c))) ∙ c.if-lead-ne0.false)))
-
-past5 : (c : Else-section_wrong) → Clear 5 (checks (fields5 c))
-unfolding read_checks
-past5 c = (past4 (to4 c), sym (section-judged (goal.at.Else-section_wrong c).After-section_wrong) ∙ c.if-section_wrong.false)
-
-past6 : (c : Else-not-holds) → Clear 6 (checks (fields6 c))
-unfolding read_checks
-past6 c = (past5 (to5 c), sym (crc-judged (goal.at.Else-not-holds c).After-holds) ∙ ap not c.if-not-holds.false)
-
-past8 : (c : In_ok-check_times) → Clear 8 (checks (fields8 c))
-unfolding read_checks
-past8 c =
-    let p = packet (fields8 c) in
-    let n = none-holds (time_checks (steps (parameter 5 p)) (steps (parameter 6 p))) tt (sym (times-judged (to6 c)) ∙ sym c.in_ok-check_times.ensures) in
-    ((past6 (to6 c), n.0), n.1.0)
-
-past9 : (c : Else-stuffing_wrong) → Clear 9 (checks (fields8 (to8 c)))
-unfolding read_checks
-past9 c = (past8 (to8 c), sym (stuffing-judged (goal.at.Else-stuffing_wrong c).After-stuffing_wrong) ∙ c.if-stuffing_wrong.false)
+    ap not_all_ones (sym (stuffing_part c.args.packet.now _ (length-read (goal.at.After-stuffing_wrong c).After-from-end))) ∙ sym c.stuffing_wrong.ensures
 
 pub returns-in_default-clause-refusal : goal.returns-in_default-clause-refusal
 unfolding read_checks
@@ -146,59 +92,84 @@ returns-in_default-clause-refusal c =
 pub returns-then-lead-ne71-clause-refusal : goal.returns-then-lead-ne71-clause-refusal
 unfolding read_checks
 returns-then-lead-ne71-clause-refusal c =
-    let f = (goal.at.returns-then-lead-ne71-clause-refusal c).After-lead_of-lead in
-    first-at 1 (checks f) (past1 f) (ap not (ne_eqb _ _ (λ e. c.if-lead-ne71.true (ap (λ (l : Lead). l.sync) (lead_is f) ∙ e))))
+    let read = lead-read (goal.at.returns-then-lead-ne71-clause-refusal c).After-lead_of-lead in
+    first-at 1 (read_checks c.args.packet.now) (past1 _ _ read c.in-Some.ensures.cases.long)
+    (ap not (ne_eqb _ _ (λ e. c.if-lead-ne71.true (ap (λ (l : Lead). l.sync) read ∙ e))))
 
 pub returns-then-lead-ne-FIXED-clause-refusal : goal.returns-then-lead-ne-FIXED-clause-refusal
 unfolding read_checks
 returns-then-lead-ne-FIXED-clause-refusal c =
-    let p = (goal.at.returns-then-lead-ne-FIXED-clause-refusal c).Else-lead-ne71 in
-    first-at 2 (checks (fields2 p)) (past2 p) (header-judged (packet (fields2 p)) ∙ ap not (ne_eqb _ _ (λ e. c.if-lead-ne-FIXED.true (ap (λ (l : Lead). l.fixed) (lead_is (fields2 p)) ∙ e))))
+    let read = lead-read (goal.at.returns-then-lead-ne-FIXED-clause-refusal c).After-lead_of-lead in
+    first-at 2 (read_checks c.args.packet.now) (past2 _ _ read c.in-Some.ensures.cases.long c.if-lead-ne71.false)
+    (header_judged c.args.packet.now ∙ ap not (ne_eqb _ _ (λ e. c.if-lead-ne-FIXED.true (ap (λ (l : Lead). l.fixed) read ∙ e))))
 
 pub returns-then-lead-ne0-clause-refusal : goal.returns-then-lead-ne0-clause-refusal
 unfolding read_checks
 returns-then-lead-ne0-clause-refusal c =
-    let p = (goal.at.returns-then-lead-ne0-clause-refusal c).Else-lead-ne-FIXED in
-    first-at 3 (checks (fields3 p)) (past3 p) (ap not (ne_eqb _ _ (λ e. c.if-lead-ne0.true (ap (λ (l : Lead). l.id) (lead_is (fields3 p)) ∙ e))))
+    let read = lead-read (goal.at.returns-then-lead-ne0-clause-refusal c).After-lead_of-lead in
+    first-at 3 (read_checks c.args.packet.now) (past3 _ _ read c.in-Some.ensures.cases.long c.if-lead-ne71.false c.if-lead-ne-FIXED.false)
+    (ap not (ne_eqb _ _ (λ e. c.if-lead-ne0.true (ap (λ (l : Lead). l.id) read ∙ e))))
 
 pub returns-then-section_wrong-clause-refusal : goal.returns-then-section_wrong-clause-refusal
 unfolding read_checks
 returns-then-section_wrong-clause-refusal c =
-    let p = (goal.at.returns-then-section_wrong-clause-refusal c).Else-lead-ne0 in
-    first-at 4 (checks (fields4 p)) (past4 p) (sym (section-judged (goal.at.returns-then-section_wrong-clause-refusal c).After-section_wrong) ∙ c.if-section_wrong.true)
+    let read = lead-read (goal.at.returns-then-section_wrong-clause-refusal c).After-lead_of-lead in
+    first-at 4 (read_checks c.args.packet.now) (past4 _ _ read c.in-Some.ensures.cases.long c.if-lead-ne71.false c.if-lead-ne-FIXED.false c.if-lead-ne0.false)
+    (sym (ap (λ (l : Lead). section_wrong l.section l.addressing) read) ∙ sym c.section_wrong.ensures ∙ c.if-section_wrong.true)
 
 pub returns-then-not-holds-clause-refusal : goal.returns-then-not-holds-clause-refusal
 unfolding read_checks
 returns-then-not-holds-clause-refusal c =
-    let p = (goal.at.returns-then-not-holds-clause-refusal c).Else-section_wrong in
-    first-at 5 (checks (fields5 p)) (past5 p) (sym (crc-judged (goal.at.returns-then-not-holds-clause-refusal c).After-holds) ∙ ap not c.if-not-holds.true)
+    let at = (goal.at.returns-then-not-holds-clause-refusal c).After-holds in
+    let read = lead-read (goal.at.After-holds at).After-lead_of-lead in
+    let section = sym c.section_wrong.ensures ∙ c.if-section_wrong.false in
+    first-at 5 (read_checks c.args.packet.now) (past5 _ _ read c.in-Some.ensures.cases.long c.if-lead-ne71.false c.if-lead-ne-FIXED.false c.if-lead-ne0.false section)
+    (crc-judged at ∙ ap not c.if-not-holds.true)
 
 pub returns-in_err-check_times-clause-refusal : goal.returns-in_err-check_times-clause-refusal
-unfolding read_checks
 returns-in_err-check_times-clause-refusal c =
-    let p = (goal.at.returns-in_err-check_times-clause-refusal c).Else-not-holds in
-    let l = packet (fields6 p) in
-    let e = c.in_err-check_times.ensures ∙ times-judged p in
-    let q = past6 p in
-    code-exit _ _ _ c.from_residual.ensures.1
-    (e ∙ sym (rw (q.0.0.0.0.0.1, q.0.0.0.0.1, q.0.0.0.1, q.0.0.1, q.0.1, q.1) (first-front (time_checks (steps (parameter 5 l)) (steps (parameter 6 l))) (35 when stuffing_wrong l ∷ fault house (addressing_of l) ∷ []) (λ z. number-not-0 _ (e ∙ z)))))
+    let at = (goal.at.returns-in_err-check_times-clause-refusal c).After-holds in
+    let read = lead-read (goal.at.After-holds at).After-lead_of-lead in
+    let section = sym c.section_wrong.ensures ∙ c.if-section_wrong.false in
+    let crc = crc-judged at ∙ ap not c.if-not-holds.false in
+    code-exit _ _ c.from_residual.ensures.1
+    ∙ (times-refused _ _ read c.in-Some.ensures.cases.long c.if-lead-ne71.false c.if-lead-ne-FIXED.false c.if-lead-ne0.false section crc _ c.in_err-check_times.ensures (number-not-0 _))
+
+late : (c : In_ok-check_times) → Clear 8 (read_checks c.args.packet.now)
+late c =
+    let at = (goal.at.In_ok-check_times c).After-holds in
+    let read = lead-read (goal.at.After-holds at).After-lead_of-lead in
+    let section = sym c.section_wrong.ensures ∙ c.if-section_wrong.false in
+    let crc = crc-judged at ∙ ap not c.if-not-holds.false in
+    past8 _ _ read c.in-Some.ensures.cases.long c.if-lead-ne71.false c.if-lead-ne-FIXED.false c.if-lead-ne0.false section crc c.in_ok-check_times.ensures
 
 pub returns-then-stuffing_wrong-clause-refusal : goal.returns-then-stuffing_wrong-clause-refusal
 unfolding read_checks
 returns-then-stuffing_wrong-clause-refusal c =
-    let p = (goal.at.returns-then-stuffing_wrong-clause-refusal c).In_ok-check_times in
-    first-at 8 (checks (fields8 p)) (past8 p) (sym (stuffing-judged (goal.at.returns-then-stuffing_wrong-clause-refusal c).After-stuffing_wrong) ∙ c.if-stuffing_wrong.true)
+    let at = (goal.at.returns-then-stuffing_wrong-clause-refusal c).After-stuffing_wrong in
+    first-at 8 (read_checks c.args.packet.now) (late (goal.at.After-stuffing_wrong at).In_ok-check_times) (stuffing-judged at ∙ c.if-stuffing_wrong.true)
+
+-- past the stuffing the data is judged
+last : (c : Else-stuffing_wrong) → Clear 9 (read_checks c.args.packet.now)
+unfolding read_checks
+last c =
+    let at = (goal.at.Else-stuffing_wrong c).After-stuffing_wrong in
+    (late (goal.at.After-stuffing_wrong at).In_ok-check_times, stuffing-judged at ∙ c.if-stuffing_wrong.false)
+
+data-judged : (c : After-check) (f : Fault) → f ≡ fault_of house (take (21 + c.from-end.result - 21) (drop 21 c.args.packet.now)) → f.refusal ≡ (fault_of house (addressing_of c.args.packet.now)).refusal
+data-judged c f e =
+    ap (λ (x : Fault). x.refusal) (e ∙ ap (fault_of house) (addressing_part c.args.packet.now _ (length-read (goal.at.After-check c).After-from-end)))
 
 pub returns-in_err-check-clause-refusal : goal.returns-in_err-check-clause-refusal
 unfolding read_checks
 returns-in_err-check-clause-refusal c =
-    let p = (goal.at.returns-in_err-check-clause-refusal c).Else-stuffing_wrong in
-    let e = data-judged p _ c.in_err-check.ensures in
-    code-exit _ _ _ c.from_residual-in_err-check.ensures.1
-    (e ∙ first-at 9 (checks (fields8 (to8 p))) (past9 p) (ap not (ne_eqb _ _ (λ z. number-not-0 _ (e ∙ z)))))
+    let at = (goal.at.returns-in_err-check-clause-refusal c).After-check in
+    let e = data-judged at _ c.in_err-check.ensures in
+    code-exit _ _ c.from_residual-in_err-check.ensures.1
+    ∙ (e ∙ first-at 9 (read_checks c.args.packet.now) (last (goal.at.After-check at).Else-stuffing_wrong) (ap not (ne_eqb _ _ (λ z. number-not-0 _ (e ∙ z)))))
 
 pub returns-clause-refusal : goal.returns-clause-refusal
 unfolding read_checks
 returns-clause-refusal c =
-    let p = (goal.at.returns-clause-refusal c).Else-stuffing_wrong in
-    first-none (checks (fields8 (to8 p))) (past9 p, ap not (eq-eqb _ _ (sym (data-judged p _ c.in_ok-check.ensures))))
+    let at = (goal.at.returns-clause-refusal c).After-check in
+    first-none (read_checks c.args.packet.now) (last (goal.at.After-check at).Else-stuffing_wrong, ap not (eq-eqb _ _ (sym (data-judged at _ c.in_ok-check.ensures))))

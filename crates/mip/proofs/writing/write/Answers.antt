@@ -9,10 +9,9 @@ use Rattle.crc.proofs.OwnLaws.{sealed-next}
 use Rattle.fields.specs.Parts.{overlay, copied_to, filled_at}
 use Rattle.fields.proofs.LaidLaws.{copied_next, filled_next}
 use Rattle.refusals.specs.Checks.{first}
-use Rattle.refusals.proofs.AnswerLaws.{written-exit}
 use Rattle.mip.proofs.FieldLaws.{fit_wide, Writable, writable}
 use Rattle.mip.proofs.Operations.{length-lead, length_front, length-end, write-accepted}
-use Rattle.mip.specs.Write.{lead_bytes, front_bytes, mip_bytes, write_checks, write_of}
+use Rattle.mip.specs.Write.{lead_bytes, front_bytes, mip_bytes, write_checks}
 use Rattle.mip.specs.declared.Mip.{Mip}
 use Rattle.mip.proofs.writing.write.Goals as goal
 use Rattle.mip.proofs.writing.write.Goals.{In_ok-check_write}
@@ -53,10 +52,6 @@ module _ (m : Mip) (d out : List ℕ) (short : length d ≤ 163) (room : 188 ≤
       let two : o2 ≡ overlay 0 front out = e2 ∙ ap (copied_to 21 (length d) d 0) e1 ∙ with-data in
       let three : o3 ≡ overlay 0 (sealed front) out = e3 ∙ ap (sealed_at end) two ∙ with-crc in
       e4 ∙ ap (filled_at (end + 4) (188 - (end + 4)) 0xFF) three ∙ with-stuffing
-
-pub returns-in_err-check_write : goal.returns-in_err-check_write
-unfolding write_of
-returns-in_err-check_write c = written-exit _ _ _ _ _ c.from_residual.ensures.1 c.in_err-check_write.ensures
 
 pub lay_lead-requires : goal.lay_lead-requires
 lay_lead-requires c =

@@ -3,7 +3,7 @@
 use borrow.Author.Tests.{lt-ltb, le-ltb}
 use lib.Dec.{ltb}
 use lib.ListN.{length}
-use mathlib.Core.Path.{◌≡◌, ◌∙◌}
+use mathlib.Core.Path.{◌≡◌, ap, ◌∙◌}
 use mathlib.Core.Bool.{true, false}
 use mathlib.Core.List.{List}
 use Prim.Native.Nat.{ℕ}
@@ -11,6 +11,7 @@ use native.Mathlib.Omega.{arith}
 use Rattle.fields.proofs.Cases.{cases}
 use Rattle.refusals.specs.Checks.{Check, first}
 use Rattle.refusals.specs.Answers.{answer, written}
+use Rattle.refusals.specs.declared.Written.{Written}
 use Rattle.refusals.proofs.AnswerLaws.{written-number}
 use Rattle.mip.specs.Write.{write_checks, write_of}
 use Rattle.mip.specs.declared.Mip.{Mip}
@@ -38,16 +39,19 @@ same a b result out e = rw e
 pub returns-then-addressed-gt163 : goal.returns-then-addressed-gt163
 returns-then-addressed-gt163 c =
     let a = c.args in
-    written-number _ _ _ 36 (over-163 a.periodic (mip_made a.count a.pointer a.periodic a.future a.stamp a.delay a.tps) a.addressed.now (length a.out.now) (lt-ltb _ _ c.if-addressed-gt163.true)) (λ e. omega arith)
+    ap (λ (w : Written). record { answer = w; out = a.out.now }) c.from.ensures
+    ∙ written-number _ _ _ 36 (over-163 a.periodic (mip_made a.count a.pointer a.periodic a.future a.stamp a.delay a.tps) a.addressed.now (length a.out.now) (lt-ltb _ _ c.if-addressed-gt163.true)) (λ e. omega arith)
 
 pub returns-then-periodic-gt1 : goal.returns-then-periodic-gt1
 returns-then-periodic-gt1 c =
     let a = c.args in
-    written-number _ _ _ 38 (over-one a.periodic (mip_made a.count a.pointer a.periodic a.future a.stamp a.delay a.tps) a.addressed.now (length a.out.now) (le-ltb _ _ c.if-addressed-gt163.false) (lt-ltb 1 a.periodic c.if-periodic-gt1.true)) (λ e. omega arith)
+    ap (λ (w : Written). record { answer = w; out = a.out.now }) c.from-then-periodic-gt1.ensures
+    ∙ written-number _ _ _ 38 (over-one a.periodic (mip_made a.count a.pointer a.periodic a.future a.stamp a.delay a.tps) a.addressed.now (length a.out.now) (le-ltb _ _ c.if-addressed-gt163.false) (lt-ltb 1 a.periodic c.if-periodic-gt1.true)) (λ e. omega arith)
 
 pub returns : goal.returns
 unfolding write_of
 returns c =
     let a = c.args in
-    c.write.ensures
+    ap (λ (w : Written). record { answer = w; out = c.write.new.out }) c.from-2.ensures
+    ∙ c.write.ensures
     ∙ same _ _ _ _ (as-mip a.periodic (mip_made a.count a.pointer a.periodic a.future a.stamp a.delay a.tps) a.addressed.now (length a.out.now) (le-ltb _ _ c.if-periodic-gt1.false))

@@ -8,13 +8,13 @@ use native.Mathlib.Omega.{arith}
 use lib.Dec.{leb}
 use Rattle.text.specs.Digits.{digits}
 use Rattle.text.specs.Laid.{word, Appends}
-use Rattle.text.proofs.DigitLaws.{decimal-digits}
+use Rattle.text.proofs.DigitLaws.{decimal_is_digits}
 use Rattle.text.proofs.LayLaws.{appended-not, appends_next, word-length}
 use Rattle.text.proofs.Text.word.Goals as goal
 use Rattle.text.proofs.Text.word.Goals.{After-as_bytes-digits}
 
 the_digits : (d : After-as_bytes-digits) → d.as_bytes-digits.result.now ≡ digits d.args.n
-the_digits d = d.as_bytes-digits.ensures.value ∙ d.format.ensures.text ∙ decimal-digits d.args.n d.ranges.n.fits
+the_digits d = d.as_bytes-digits.ensures.value ∙ d.format.ensures.text ∙ decimal_is_digits d.args.n d.ranges.n.fits
 
 pub returns-then-within : goal.returns-then-within
 unfolding word
