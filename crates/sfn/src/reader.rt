@@ -41,6 +41,7 @@ pub struct SfnGathered {
 impl From<SfnReader> for Reader {
     ghost from_gives = { λ r s. s ≡ reader_from r };
 
+    #[tactic(auto, unfolding(crate::specs::Reader::last_from))]
     fn from(r: SfnReader) -> Reader {
         Reader {
             pid: r.pid,
