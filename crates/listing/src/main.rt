@@ -3,86 +3,65 @@
 // that the theorem on whole listings (lines, specs/Theorems) has.
 #![tactic(auto)]
 
-ghost use Rattle.std.specs.Prelude.{◌≡◌, ◌≤◌, false, length, take};
+ghost use Rattle.std.specs.Prelude.{◌≡◌, ◌≤◌, false, is_ok, length, take, IfOk, MatchOption};
+ghost use Rattle.lines.specs.Listing.{start_listing};
 ghost use Rattle.lines.specs.Theorems.{opened, Ends};
 
 use lines::Listing;
-use std::io;
 use std::io::{ErrorKind, Read};
 use std::process::ExitCode;
 use text::Text;
 
-// Where a listing stands, and whether it is whole: the input came to its end, and all lines are written out.
-#[derive(Clone, Copy)]
-struct Listed {
-    listing: Listing,
-    whole: bool,
+// Why a listing is not whole.
+#[derive(Clone, Copy, Debug, PartialEq, Eq)]
+enum Fault {
+    Input,
+    Output,
+    Silent, // of a reader of the output that went away nothing is said
 }
 
-// A message on standard error. Where that cannot be written either nothing is left to say.
-fn complain(rt: &impl Eprint, message: &str) {
-    let _ = rt.eprintln(message);
+impl Fault {
+    // A message on standard error. Where that cannot be written either nothing is left to say.
+    fn complain(self, rt: &impl Eprint) {
+        let message = match self {
+            Fault::Input => "listing: standard input cannot be read",
+            Fault::Output => "listing: standard output cannot be written",
+            Fault::Silent => return,
+        };
+        let _ = rt.eprintln(message);
+    }
 }
 
-// Writes out the filled part of the lines. Where that fails standard error says so, but of a reader that went away nothing is
-// said.
-fn flush(rt: &(impl Print + Eprint), lines: &[u8], filled: usize) -> bool {
+// Writes out the filled part of the lines.
+fn flush(rt: &impl Print, lines: &[u8], filled: usize) -> Result<(), Fault> {
     if lines.len() < filled {
-        return false;
+        return Err(Fault::Silent);
     }
     match rt.write_all(&lines[..filled]) {
-        Ok(()) => true,
-        Err(e) => {
-            if e.kind() != ErrorKind::BrokenPipe {
-                complain(rt, "listing: standard output cannot be written");
-            }
-            false
-        }
+        Ok(()) => Ok(()),
+        Err(e) if e.kind() == ErrorKind::BrokenPipe => Err(Fault::Silent),
+        Err(_) => Err(Fault::Output),
     }
 }
 
-// Whether a read that brought nothing came to the input's end. Where it failed standard error says so.
-fn is_end(rt: &impl Eprint, got: io::Result<usize>) -> bool {
-    if got.is_ok() {
-        return true;
-    }
-    complain(rt, "listing: standard input cannot be read");
-    false
-}
-
-// What stands in the block after a read: how many bytes, whether the listing goes on, and if not whether the input came to
-// its end.
-#[derive(Clone, Copy)]
-struct Came {
+// How many bytes stand in the block with more of the input behind its first have; nothing at the input's end. Where the pieces
+// of the block are not all fed yet nothing is read.
+fn more<R: Read>(
+    input: &mut R,
+    block: &mut [u8],
     have: usize,
-    goes: bool,
-    whole: bool,
-}
-
-// More of the input behind the first have bytes of the block, or none where its pieces are not all
-// fed yet.
-fn more<R: Read>(rt: &impl Eprint, input: &mut R, block: &mut [u8], have: usize, full: bool) -> Came
+    full: bool,
+) -> Result<Option<usize>, Fault>
     requires { have ≤ length block.old }
-    ensures { (have ≤ result.have) × (result.have ≤ length block.new) × (take have block.new ≡ take have block.old) × (result.goes ≡ false → full ≡ false) }
+    ensures { IfOk result (λ came. MatchOption came (full ≡ false) (λ n. (have ≤ n) × (n ≤ length block.new) × (take have block.new ≡ take have block.old))) }
 {
     if full {
-        return Came {
-            have,
-            goes: true,
-            whole: false,
-        };
+        return Ok(Some(have));
     }
     match input.read(&mut block[have..]) {
-        Ok(came) if 0 < came => Came {
-            have: have + came,
-            goes: true,
-            whole: false,
-        },
-        got => Came {
-            have,
-            goes: false,
-            whole: is_end(rt, got),
-        },
+        Ok(0) => Ok(None),
+        Ok(came) => Ok(Some(have + came)),
+        Err(_) => Err(Fault::Input),
     }
 }
 
@@ -91,42 +70,33 @@ fn more<R: Read>(rt: &impl Eprint, input: &mut R, block: &mut [u8], have: usize,
 // of turns that no run uses up. The contract: some run (lines, specs/Theorems) came to the state that
 // it ends in, and where the listing is whole it left no piece.
 fn list_all<R: Read>(
-    rt: &(impl Print + Eprint),
+    rt: &impl Print,
     input: &mut R,
+    listing: &mut Listing,
     block: &mut [u8],
     gathering: &mut [u8],
     output: &mut [u8],
     lines: &mut [u8],
-) -> Listed
-    ensures { Ends (opened gathering.old output.old lines.old) result.listing gathering.new output.new lines.new result.whole }
+) -> Result<(), Fault>
+    requires { listing.old ≡ start_listing }
+    ensures { Ends (opened gathering.old output.old lines.old) listing.new gathering.new output.new lines.new (is_ok result) }
 {
-    let mut listing = Listing::start();
     let mut have: usize = 0;
     let mut full = false;
     for _ in 0..u64::MAX {
-        let came = more(rt, input, block, have, full);
-        if !came.goes {
-            return Listed {
-                listing,
-                whole: came.whole,
-            };
-        }
-        let fed = listing.feed(&block[..came.have], gathering, output, lines);
-        listing = fed.listing;
+        let Some(came) = more(input, block, have, full)? else {
+            return Ok(());
+        };
+        let fed = listing.feed(&block[..came], gathering, output, lines);
         full = fed.full;
-        have = lines::keep_rest(block, fed.taken, came.have);
-        if !flush(rt, lines, fed.filled) {
-            break;
-        }
+        have = lines::keep_rest(block, fed.taken, came);
+        flush(rt, lines, fed.filled)?;
     }
-    Listed {
-        listing,
-        whole: false,
-    }
+    Err(Fault::Silent)
 }
 
-// The exit status says whether the listing is whole.
-fn main(rt: HostRuntime) -> ExitCode {
+// Lists standard input, from the header to the totals.
+fn list(rt: &HostRuntime) -> Result<(), Fault> {
     let mut input = rt.stdin();
     let mut block = [0u8; 192512];
     let mut gathering = [0u8; 8202];
@@ -135,26 +105,30 @@ fn main(rt: HostRuntime) -> ExitCode {
     let mut text = Text::new(&mut lines);
     lines::head_line(&mut text);
     let head = text.at;
-    if !flush(&rt, &lines, head) {
-        return ExitCode::FAILURE;
-    }
-    let end = list_all(
-        &rt,
+    flush(rt, &lines, head)?;
+    let mut listing = Listing::start();
+    list_all(
+        rt,
         &mut input,
+        &mut listing,
         &mut block,
         &mut gathering,
         &mut output,
         &mut lines,
-    );
-    if !end.whole {
-        return ExitCode::FAILURE;
-    }
-    let listing = end.listing;
+    )?;
     let mut text = Text::new(&mut lines);
     listing.last_line(&mut text);
     let last = text.at;
-    if !flush(&rt, &lines, last) {
-        return ExitCode::FAILURE;
+    flush(rt, &lines, last)
+}
+
+// The exit status says whether the listing is whole.
+fn main(rt: HostRuntime) -> ExitCode {
+    match list(&rt) {
+        Ok(()) => ExitCode::SUCCESS,
+        Err(fault) => {
+            fault.complain(&rt);
+            ExitCode::FAILURE
+        }
     }
-    ExitCode::SUCCESS
 }

@@ -22,10 +22,9 @@ use Rattle.mip.specs.Read.{read_checks, read_of}
 use Rattle.mip.proofs.FieldLaws.{readable}
 use Rattle.mip.proofs.Operations.{read-accepted, read-refused}
 use Rattle.transport.specs.Tests.{pid_outside}
-use Rattle.gather.specs.State.{start_of, gather_checks}
+use Rattle.gather.specs.State.{Started, start_of, gather_checks}
 use Rattle.gather.specs.Gather.{result_of, taken_of, gather_of}
 use Rattle.gather.specs.declared.Reader.{Reader}
-use Rattle.gather.specs.declared.Started.{Started}
 use Rattle.gather.proofs.RefusalLaws.{passed}
 use Rattle.gather.proofs.GatherLaws.{gather-refused, gather-taken}
 use Rattle.gather.proofs.StateLaws.{start-taken, start-refused, result-few}

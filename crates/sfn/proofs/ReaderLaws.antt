@@ -18,13 +18,13 @@ use Rattle.transport.proofs.HeaderLaws.{count-few}
 use Rattle.gather.specs.Rules.{brought_by}
 use Rattle.gather.specs.State.{count_over, unfit, gather_checks}
 use Rattle.gather.specs.Gather.{refused_of, taken_of, gather_of}
-use Rattle.gather.specs.declared.Last.{Last}
-use Rattle.gather.specs.declared.Last.TheVariants.{Nothing, Count}
+use Rattle.std.specs.Prelude.{Option, None, Some}
+use Rattle.gather.specs.Marks.{no_marks}
 use Rattle.gather.specs.declared.Reader.{Reader}
 use Rattle.gather.proofs.RefusalLaws.{fit_parts}
 use Rattle.gather.proofs.GatherLaws.{gather-refused, gather-taken}
 use Rattle.sfn.specs.Answers.{bit_of}
-use Rattle.sfn.specs.Reader.{last_from, last_of, reader_of, reader_from, SfnOutcome, outcome_of, refused_by, gathering_checks, gathered_by}
+use Rattle.sfn.specs.Reader.{last_from, last_of, reader_of, reader_from, SfnOutcome, outcome_of, refused_with, refused_by, gathering_checks, gathered_by}
 use Rattle.sfn.specs.declared.reader.SfnReader.{SfnReader}
 
 -- ---- a state of C's, and the reader's state that it stands for
@@ -43,10 +43,10 @@ pub reader-back : (r : SfnReader) → r.in_step ≤ 1 → reader_of (reader_from
 reader-back r h =
     λ i. record { pid = r.pid; last = last-back r.last i; in_step = bit-back r.in_step h i; waiting = r.waiting }
 
-last-forth : (l : Last) → count_over l ≡ false → last_from (last_of l) ≡ l
+last-forth : (l : Option ℕ) → count_over l ≡ false → last_from (last_of l) ≡ l
 unfolding last_from
-last-forth Nothing h = refl
-last-forth (Count n) h = rw (ne_eqb n 255 (λ e. absurd (omega (arith, ltb-false 15 n h))))
+last-forth None h = refl
+last-forth (Some n) h = rw (ne_eqb n 255 (λ e. absurd (omega (arith, ltb-false 15 n h))))
 
 bit-forth : (b : Bool) → eqb (bit_of b) 1 ≡ b
 bit-forth true = refl
@@ -107,6 +107,16 @@ module _ (r : SfnReader) (t g o : List ℕ) where
         ∙ flat-refused (first checks)
         ∙ ap (refused_by r g o) (sym asked-on)
         ∙ sym (answer-refused asked (refused_by r g o) _ (λ e. n (sym asked-on ∙ e))))
+
+    -- as the code comes to a refusal: it hands back the reader that it was handed
+    pub gathered-refused : (n : ℕ) (s : Reader) (g' o' : List ℕ) → record { answer = record { refusal = n; reader = s; bytes = 0; packets = 0; marks = no_marks }; gathering = g'; output = o' } ≡ gather_of (reader_from r) t g o
+        → (n ≡ 0 → ⊥)
+        → record { answer = refused_with r n; gathering = g'; out = o' } ≡ gathered_by r t g o
+    gathered-refused n s g' o' e h =
+        let flat = ap outcome_of e ∙ gathered-flat in
+        let shown : n ≡ (gathered_by r t g o).answer.refusal = ap (λ (x : SfnOutcome). x.answer.refusal) flat in
+        let same : gathered_by r t g o ≡ refused_by r g o n = refused-state (λ z. h (shown ∙ z)) ∙ ap (refused_by r g o) (sym shown) in
+        ap (λ (x : SfnOutcome). record { answer = refused_with r n; gathering = x.gathering; out = x.out }) (flat ∙ same) ∙ sym same
 
     -- THE NEXT CALL begins from the state that this one left: C may keep it as it came
     pub next-state : reader_from (gathered_by r t g o).answer.reader ≡ (gather_of (reader_from r) t g o).answer.reader

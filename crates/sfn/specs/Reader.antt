@@ -1,26 +1,22 @@
 -- The gathering reader, laid out flat, and a state of C's as a reader's state.
-use Rattle.std.specs.Prelude.{ℕ, ◌^◌, ◌<◌, cond, List, ◌∷◌, eqb, ltb, length}
+use Rattle.std.specs.Prelude.{ℕ, ◌^◌, ◌<◌, cond, List, ◌∷◌, eqb, ltb, length, Option, None, Some}
 use Rattle.refusals.specs.Checks.{Check, ◌when◌}
 use Rattle.refusals.specs.Answers.{answer}
-use Rattle.gather.specs.State.{gather_checks}
-use Rattle.gather.specs.Gather.{Outcome, taken_of}
-use Rattle.gather.specs.declared.Last.{Last}
-use Rattle.gather.specs.declared.Last.TheVariants.{Nothing, Count}
+use Rattle.gather.specs.State.{Started, gather_checks}
+use Rattle.gather.specs.Gather.{Gathered, Outcome, taken_of}
 use Rattle.gather.specs.declared.Reader.{Reader}
-use Rattle.gather.specs.declared.Started.{Started}
-use Rattle.gather.specs.declared.Gathered.{Gathered}
 use Rattle.sfn.specs.Answers.{bit_of}
 use Rattle.sfn.specs.declared.reader.SfnReader.{SfnReader}
 use Rattle.sfn.specs.declared.reader.SfnStarted.{SfnStarted}
 use Rattle.sfn.specs.declared.reader.SfnGathered.{SfnGathered}
 
 -- 255 stands for no last count
-unfoldable pub last_from : ℕ → Last
-last_from n = cond (eqb n 255) Nothing (Count n)
+unfoldable pub last_from : ℕ → Option ℕ
+last_from n = cond (eqb n 255) None (Some n)
 
-abbrev pub last_of : Last → ℕ
-last_of Nothing = 255
-last_of (Count n) = n
+abbrev pub last_of : Option ℕ → ℕ
+last_of None = 255
+last_of (Some n) = n
 
 abbrev pub reader_of : Reader → SfnReader
 reader_of r =
@@ -45,7 +41,7 @@ gathered_of g =
       crc = bit_of g.marks.crc;
     }
 
--- an answer's numbers fit C's 32 bits: only a private function cites this
+-- an answer's numbers fit C's 32 bits: only proofs cite this
 pub record GatherFits (g : Gathered) : Type 0 where
   pub waiting : g.reader.waiting < 2 ^ 32
   pub bytes : g.bytes < 2 ^ 32
@@ -61,10 +57,13 @@ abbrev pub outcome_of : Outcome → SfnOutcome
 outcome_of o = record { answer = gathered_of o.answer; gathering = o.gathering; out = o.output }
 
 -- a refusal: its number, zeros, the reader as it was handed in, both buffers as they were
+abbrev pub refused_with : SfnReader → ℕ → SfnGathered
+refused_with r n = record { refusal = n; reader = r; bytes = 0; packets = 0; loss = 0; misfit = 0; crc = 0 }
+
 abbrev pub refused_by : SfnReader → List ℕ → List ℕ → ℕ → SfnOutcome
 refused_by r gathering out n =
     record {
-      answer = record { refusal = n; reader = r; bytes = 0; packets = 0; loss = 0; misfit = 0; crc = 0 };
+      answer = refused_with r n;
       gathering = gathering;
       out = out;
     }

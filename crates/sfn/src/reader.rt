@@ -1,10 +1,12 @@
 // The gathering reader, as C sees it.
 ghost use Rattle.std.specs.Prelude.{◌≡◌, ◌^◌, ◌<◌};
 ghost use Rattle.gather.specs.State.{start_of};
-ghost use Rattle.sfn.specs.Reader.{last_from, last_of, reader_of, reader_from, started_of, GatherFits, gathered_of, gathered_by};
+ghost use Rattle.refusals.specs.Refusals.{number_of};
+ghost use Rattle.sfn.specs.Reader.{reader_of, reader_from, started_of, refused_with, gathered_by};
 
-use super::{bit, count_32};
-use gather::{Gathered, Last, Reader};
+use super::count_32;
+use gather::Reader;
+use refusals::Refusal;
 
 // A reader's state. last is the last count taken, or 255 for none; in_step is 0 or 1.
 #[repr(C)]
@@ -36,89 +38,65 @@ pub struct SfnGathered {
     pub crc: u8,
 }
 
-// The last count that a byte stands for.
-fn last_from(last: u8) -> Last
-    ensures { result ≡ last_from last }
-{
-    if last == 255 {
-        return Last::Nothing;
-    }
-    Last::Count(last)
-}
+impl From<SfnReader> for Reader {
+    ghost from_gives = { λ r s. s ≡ reader_from r };
 
-// The byte that stands for a last count.
-fn last_byte(last: Last) -> u8
-    ensures { result ≡ last_of last }
-{
-    match last {
-        Last::Nothing => 255,
-        Last::Count(n) => n,
+    #[tactic(auto, unfolding(crate::specs::Reader::last_from))]
+    fn from(r: SfnReader) -> Reader {
+        Reader {
+            pid: r.pid,
+            last: (r.last != 255).then_some(r.last),
+            in_step: r.in_step == 1,
+            waiting: r.waiting as usize,
+        }
     }
 }
 
-// A state laid out flat.
+// A state laid out flat. No From: it asks that what waits fits C's 32 bits.
 fn reader_flat(r: Reader) -> SfnReader
     requires { r.waiting < 2 ^ 32 }
     ensures { result ≡ reader_of r }
 {
-    let last = r.last;
-    let last = last_byte(last);
-    let in_step = bit(r.in_step);
-    let waiting = count_32(r.waiting);
     SfnReader {
         pid: r.pid,
-        last,
-        in_step,
-        waiting,
+        last: r.last.unwrap_or(255),
+        in_step: u8::from(r.in_step),
+        waiting: count_32(r.waiting),
     }
 }
 
-// The reader's state that C's stands for.
-fn reader_from(r: SfnReader) -> Reader
-    ensures { result ≡ reader_from r }
+// A refused call: its number, zeros, and the reader as it was handed in.
+fn refused(refusal: Refusal, reader: SfnReader) -> SfnGathered
+    ensures { result ≡ refused_with reader (number_of refusal) }
 {
-    let last = last_from(r.last);
-    Reader {
-        pid: r.pid,
-        last,
-        in_step: r.in_step == 1,
-        waiting: r.waiting as usize,
-    }
-}
-
-// An answer laid out flat.
-fn gathered_flat(g: Gathered) -> SfnGathered
-    requires { GatherFits g }
-    ensures { result ≡ gathered_of g }
-{
-    let reader = g.reader;
-    let reader = reader_flat(reader);
-    let bytes = count_32(g.bytes);
-    let packets = count_32(g.packets);
-    let marks = g.marks;
-    let loss = bit(marks.loss);
-    let misfit = bit(marks.misfit);
-    let crc = bit(marks.crc);
     SfnGathered {
-        refusal: g.refusal,
+        refusal: refusal.number(),
         reader,
-        bytes,
-        packets,
-        loss,
-        misfit,
-        crc,
+        bytes: 0,
+        packets: 0,
+        loss: 0,
+        misfit: 0,
+        crc: 0,
     }
 }
 
 pub fn sfn_start(pid: u16) -> SfnStarted
     ensures { result ≡ started_of (start_of pid) }
 {
-    let s = Reader::start(pid);
-    let reader = s.reader;
-    let reader = reader_flat(reader);
-    SfnStarted {
-        refusal: s.refusal,
-        reader,
+    match Reader::start(pid) {
+        Ok(reader) => SfnStarted {
+            refusal: 0,
+            reader: reader_flat(reader),
+        },
+        Err(refusal) => SfnStarted {
+            refusal: refusal.number(),
+            reader: SfnReader {
+                pid: 0,
+                last: 0,
+                in_step: 0,
+                waiting: 0,
+            },
+        },
     }
 }
 
@@ -131,17 +109,19 @@ pub fn sfn_gather(
     ensures { record { answer = result; gathering = gathering.new; out = out.new } ≡ gathered_by reader transport.now gathering.old out.old }
 {
     if 1 < reader.in_step {
-        return SfnGathered {
-            refusal: refusals::TOO_WIDE_OR_UNFIT_STATE,
-            reader,
-            bytes: 0,
-            packets: 0,
-            loss: 0,
-            misfit: 0,
-            crc: 0,
-        };
+        return refused(Refusal::TooWideOrUnfitState, reader);
     }
-    let state = reader_from(reader);
-    let g = state.gather(transport, gathering, out);
-    gathered_flat(g)
+    let mut state = Reader::from(reader);
+    match state.gather(transport, gathering, out) {
+        Ok(g) => SfnGathered {
+            refusal: 0,
+            reader: reader_flat(state),
+            bytes: count_32(g.bytes),
+            packets: count_32(g.packets),
+            loss: u8::from(g.marks.loss),
+            misfit: u8::from(g.marks.misfit),
+            crc: u8::from(g.marks.crc),
+        },
+        Err(refusal) => refused(refusal, reader),
+    }
 }

@@ -75,7 +75,7 @@ put_piece-requires c =
 pub overflow_add-packets : goal.overflow_add-packets
 overflow_add-packets c =
     let l = c.loop-piece in
-    omega (arith, ap length c.in-Some.ensures.steps, l.invariant.whole, loads-few 0 c.args.batch.now, c.requires.1)
+    omega (arith, ap length c.in-Some.ensures.steps, l.invariant.whole, loads-few 0 c.args.batch.now, c.requires.small.1)
 
 pub loop-piece-preserved : goal.loop-piece-preserved
 loop-piece-preserved c =
