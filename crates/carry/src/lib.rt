@@ -73,13 +73,13 @@ fn has_start(r: usize, rest: usize) -> bool
 
 // How many bytes are left of the packet that so many bytes of the batch end in, from a packet's first byte on.
 fn left_after(batch: &[u8], bytes: usize) -> usize
-    requires { bytes ≤ 183 }
+    requires { (bytes ≤ 183) × (bytes ≤ length batch.now) }
     ensures { result ≡ left_of bytes batch.now }
 {
     let mut end = 0;
     // No range: each packet's own length tells where the next begins.
     while end < bytes {
-        end += packet::own_length(batch, end);
+        end += packet::own_length(&batch[end..]);
     }
     end - bytes
 }

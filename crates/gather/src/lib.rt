@@ -75,7 +75,7 @@ fn joined_length(waiting: &[u8], d: &[u8]) -> usize
 fn reached(waiting: &[u8]) -> bool
     ensures { result ≡ reaches waiting.now }
 {
-    packet::own_length(waiting, 0) <= waiting.len()
+    packet::own_length(waiting) <= waiting.len()
 }
 
 // Whether a last count cannot be one.
@@ -217,7 +217,7 @@ fn follow(onward: &[u8], h: Numbers, output: &mut [u8]) -> Numbers
     let mut held = h;
     let mut rest = onward;
     loop {
-        match packet::judge(rest, 0) {
+        match packet::judge(rest) {
             Err(Flaw::Short) => return held.waits(rest.len()),
             Err(Flaw::Bad) => return held.crc_fails(),
             Ok(size) => {

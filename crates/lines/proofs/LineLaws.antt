@@ -22,7 +22,7 @@ use Rattle.refusals.proofs.NumberLaws.{number-not-0}
 use Rattle.refusals.specs.Checks.{Check, ◌when◌, holds, number, first}
 use Rattle.packet.specs.Layout.{header, size_of, reserved_type, pad_set}
 use Rattle.packet.specs.Read.{field, header_of, payload_of, reserved_set, read_checks, no_header, read_of, Packet, packet_told}
-use Rattle.packet.specs.Cut.{cut}
+use Rattle.packet.specs.Cut.{Whole, joined}
 use Rattle.packet.specs.declared.Header.{Header}
 use Rattle.packet.proofs.LayoutLaws.{size-least, size-take}
 use Rattle.packet.proofs.CutLaws.{cut_short, cut-bad, cut-good}
@@ -89,103 +89,35 @@ line-few s =
     rw ((read-refused s z).0, by-refusal (record { refusal = first (read_checks s); header = no_header }) z)
     (omega (arith, refused-few (first (read_checks s)) (refusal-under s))))
 
--- ---- a packet by its own length is read with 14 exactly where its CRC is wrong
-
-module _ (s : List ℕ) (long : 10 ≤ length s) (size : length s ≡ size_of s) where
-  read-bad : crc_holds s ≡ false → (read_of s).refusal ≡ 14
-  unfolding read_checks
-  read-bad b = read-shows s ∙ simp (le-ltb (length s) 10 long, eq-eqb (length s) (size_of s) size, b)
-
-  other : (a b c : Bool) → first (20 when a ∷ 21 when b ∷ 22 when c ∷ []) ≡ 14 → ⊥
-  other true b c e = let z : ◌≡◌ {A = ℕ} 20 14 = e in omega arith
-  other false true c e = let z : ◌≡◌ {A = ℕ} 21 14 = e in omega arith
-  other false false true e = let z : ◌≡◌ {A = ℕ} 22 14 = e in omega arith
-  other false false false e = let z : ◌≡◌ {A = ℕ} 0 14 = e in omega arith
-
-  read-good : crc_holds s ≡ true → (read_of s).refusal ≡ 14 → ⊥
-  unfolding read_checks
-  read-good g e =
-      other (reserved_set s) (reserved_type (field 0 s)) (pad_set (field 5 s) (payload_of s))
-      (simp (le-ltb (length s) 10 long, eq-eqb (length s) (size_of s) size, g) at (sym (read-shows s) ∙ e))
-
-  pub bad-of : (read_of s).refusal ≡ 14 → crc_holds s ≡ false
-  bad-of e = cases (crc_holds s) (λ g. absurd (read-good g e)) (λ b. b)
-
-  pub good_of : ((read_of s).refusal ≡ 14 → ⊥) → crc_holds s ≡ true
-  good_of h = cases (crc_holds s) (λ g. g) (λ b. absurd (h (read-bad b)))
-
--- ---- the lines of packets back to back, as a loop finds them from its place on
-
-abbrev pub lines_from : List ℕ → List ℕ
-lines_from l = lines_of (cut l).packets
-
-module _ (l : List ℕ) where
-  pub lines-short : length l < size_of l → lines_from l ≡ []
-  unfolding lines_of
-  lines-short h = rw (cut_short l h)
-
-  module _ (h : size_of l ≤ length l) where
-    abbrev p : List ℕ
-    p = take (size_of l) l
-
-    p-long : length p ≡ size_of l
-    p-long = length-take-le (size_of l) l h
-
-    p-size : length p ≡ size_of p
-    p-size = p-long ∙ sym (size-take (size_of l) l (omega (arith, size-least l)))
-
-    p-least : 10 ≤ length p
-    p-least = omega (arith, p-long, size-least l)
-
-    pub lines-bad : (read_of p).refusal ≡ 14 → lines_from l ≡ []
-    unfolding lines_of
-    lines-bad e = rw (cut-bad l h (bad-of p p-least p-size e))
-
-    pub lines-good : ((read_of p).refusal ≡ 14 → ⊥) → lines_from l ≡ line_of p ++ lines_from (drop (size_of l) l)
-    unfolding lines_of
-    lines-good e = rw (cut-good l h (good_of p p-least p-size e))
-
 -- ---- a turn of the loop
 
+module _ (p : List ℕ) (ps : List (List ℕ)) (whole : Whole p) (w : ℕ) (m : List ℕ) (room : w + 2 * length (joined (p ∷ ps)) ≤ length m)
+    (v : ℕ) (n : List ℕ) (f : record { at = v; lines = n } ≡ appended (line_of p) w m) where
+  abbrev x : List ℕ
+  x = line_of p
+
+  long : length (joined (p ∷ ps)) ≡ length p + length (joined ps)
+  unfolding joined
+  long = length-append p (joined ps)
+
+  x-few : length x ≤ 2 * length p
+  x-few = omega (arith, line-few p, whole.size, size-least p)
+
+  x-laid : record { at = v; lines = n } ≡ laid x w m
+  x-laid = f ∙ appended-fits x w m (omega (arith, x-few, long))
+
+  pub left-room : v + 2 * length (joined ps) ≤ length n
+  left-room =
+      let k : length n ≡ length m = ap length (laid-lines x w m v n x-laid) ∙ length-overlay w x m (omega (arith, x-few, long)) in
+      omega (arith, x-few, long, laid-at x w m v n x-laid)
+
+  pub left-good : laid (lines_of ps) v n ≡ laid (lines_of (p ∷ ps)) w m
+  unfolding lines_of
+  left-good =
+      let r : List ℕ = lines_of ps in
+      laid_next x r w m v (v + length r) n (overlay v r n) (omega (arith, x-few, long)) x-laid refl
+
 -- nothing is left
-pub nothing_left : (l : List ℕ) (w : ℕ) (m : List ℕ) → lines_from l ≡ [] → record { at = w; lines = m } ≡ laid (lines_from l) w m
-nothing_left l w m e = rw e (sym (laid_nil w m))
-
-module _ (s : List ℕ) (i size : ℕ) (e : size ≡ size_of (drop i s)) where
-  pub left-short : leb (i + size) (length s) ≡ false → lines_from (drop i s) ≡ []
-  left-short h =
-      lines-short (drop i s) (rw (length-drop i s, ← e) (omega (arith, leb-false (i + size) (length s) h, size-least (drop i s))))
-
-  module _ (h : i + size ≤ length s) (p : Packet) (q : p ≡ read_of (take (i + size - i) (drop i s))) where
-    long : size_of (drop i s) ≤ length (drop i s)
-    long = rw (length-drop i s, ← e) (omega arith)
-
-    -- the part that was read is the packet
-    reads : p ≡ read_of (take (size_of (drop i s)) (drop i s))
-    reads = let k : i + size - i ≡ size_of (drop i s) = omega arith in q ∙ ap (λ (n : ℕ). read_of (take n (drop i s))) k
-
-    pub left-bad : p.refusal ≡ 14 → lines_from (drop i s) ≡ []
-    left-bad b = lines-bad (drop i s) long (sym (ap (λ (x : Packet). x.refusal) reads) ∙ b)
-
-    module _ (g : p.refusal ≡ 14 → ⊥) (w : ℕ) (m : List ℕ) (room : w + 2 * (length s - i) ≤ length m) (v : ℕ) (n : List ℕ) (f : record { at = v; lines = n } ≡ appended (line_by p) w m) where
-      abbrev x : List ℕ
-      x = line_of (take (size_of (drop i s)) (drop i s))
-
-      x-few : length x ≤ 2 * size
-      x-few = omega (arith, line-few (take (size_of (drop i s)) (drop i s)), size-least (drop i s))
-
-      x-laid : record { at = v; lines = n } ≡ laid x w m
-      x-laid = f ∙ ap (λ (y : Packet). appended (line_by y) w m) reads ∙ appended-fits x w m (omega (arith, x-few))
-
-      pub left-room : v + 2 * (length s - (i + size)) ≤ length n
-      left-room =
-          let k : length n ≡ length m = ap length (laid-lines x w m v n x-laid) ∙ length-overlay w x m (omega (arith, x-few)) in
-          omega (arith, x-few, laid-at x w m v n x-laid)
-
-      pub left-good : laid (lines_from (drop (i + size) s)) v n ≡ laid (lines_from (drop i s)) w m
-      left-good =
-          let r : List ℕ = lines_from (drop (i + size) s) in
-          let two : lines_from (drop i s) ≡ x ++ r =
-          lines-good (drop i s) long (λ b. g (ap (λ (y : Packet). y.refusal) reads ∙ b))
-          ∙ ap (λ (k : List ℕ). x ++ lines_from k) (drop-drop (size_of (drop i s)) i s ∙ ap (λ (k : ℕ). drop (i + k) s) (sym e)) in
-          rw two (laid_next x r w m v (v + length r) n (overlay v r n) (omega arith) x-laid refl)
+pub nothing_left : (ps : List (List ℕ)) (w : ℕ) (m : List ℕ) → ps ≡ [] → record { at = w; lines = m } ≡ laid (lines_of ps) w m
+unfolding lines_of
+nothing_left ps w m e = rw e (sym (laid_nil w m))

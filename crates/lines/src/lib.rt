@@ -16,7 +16,7 @@ ghost use Rattle.lines.specs.Listing.{start_listing, after_of, roomy, step_of, s
 use arrayvec::ArrayString;
 use gather::{Gathered, Reader};
 use itoa::Buffer;
-use packet::Header;
+use packet::{Header, Packets};
 use refusals::Refusal;
 use text::Text;
 
@@ -115,32 +115,16 @@ pub fn head_line(text: &mut Text)
     text.append(b"type count frame stream bits\n");
 }
 
-// Whether reading a packet found its CRC wrong.
-fn crc_failed(p: Result<Header, Refusal>) -> bool
-    ensures { result ≡ nat_eq (packet_told p).refusal 14 }
-{
-    p == Err(Refusal::CrcWrong)
-}
-
-// Lays the lines of the packets of s, which stand back to back, up to the first that is not whole. Their CRC is judged by
-// reading them: 14 is no line, as packets with a wrong CRC are none of the cut.
+// Lays the lines of the packets of s, which stand back to back, up to the first that is not whole.
 fn lay_lines(text: &mut Text, s: &[u8])
     requires { text.old.at + 2 * length s.now ≤ length text.old.lines.now }
     ensures { Lays (lines_of (cut s.now).packets) text.old text.new }
 {
-    let mut i = 0;
-    loop {
-        let size = packet::own_length(s, i);
-        if !fields::within(i, size, s.len()) {
+    for packet in Packets::of(s) {
+        let Ok(packet) = packet else {
             return;
-        }
-        let end = i + size;
-        let p = packet::read(&s[i..end]);
-        if crc_failed(p) {
-            return;
-        }
-        line(text, p);
-        i = end;
+        };
+        line(text, packet::read(packet));
     }
 }
 

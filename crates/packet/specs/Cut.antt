@@ -1,11 +1,13 @@
 -- Packets back to back: how bytes are cut into T2-MI packets by their own lengths. The batch writer and the gathering
 -- reader stand on this definition. Only length and CRC are judged.
-use Rattle.std.specs.Prelude.{◌≡◌, ℕ, zero, suc, Bool, true, false, cond, List, [], ◌∷◌, ◌++◌, length, take, drop, ◌==◌, nat_le, Result, Ok, Err}
+use Rattle.std.specs.Prelude.{◌≡◌, ℕ, zero, suc, Bool, true, false, cond, List, [], ◌∷◌, ◌++◌, length, take, drop, ◌==◌, nat_le, map, Result, Ok, Err}
+use Rattle.std.specs.Borrow.{Bor}
 use Rattle.crc.specs.Crc.{crc_holds}
 use Rattle.packet.specs.Layout.{size_of}
 use Rattle.refusals.specs.Refusals.{number_of}
 use Rattle.refusals.specs.declared.Refusal.{Refusal}
 use Rattle.packet.specs.declared.Flaw.{Flaw}
+use Rattle.packet.specs.declared.Packets.{Packets}
 use Rattle.packet.specs.declared.Flaw.TheVariants.{Short, Bad}
 
 -- a whole packet whose CRC holds
@@ -61,6 +63,23 @@ Means f r = number_of r ≡ judged_number (Err f)
 -- nothing is left
 unfoldable pub batch_fault : List ℕ → ℕ
 batch_fault l = let rest = (cut l).rest in cond (length rest == 0) 0 (judged_number (judge_of rest))
+
+-- what comes of bytes, part by part: the good packets, and then, where something is left behind them, what is wrong with it
+abbrev pub flaw_in : Result ℕ Flaw → List (Result (List ℕ) Flaw)
+flaw_in (Err f) = Err f ∷ []
+flaw_in (Ok n) = []
+
+unfoldable pub parts_of : List ℕ → List (Result (List ℕ) Flaw)
+parts_of l = let c = cut l in map Ok c.packets ++ cond (length c.rest == 0) [] (flaw_in (judge_of c.rest))
+
+-- the bytes of a part
+abbrev pub shown : Result (Bor (List ℕ)) Flaw → Result (List ℕ) Flaw
+shown (Ok p) = Ok p.now
+shown (Err f) = Err f
+
+-- what still comes of `Packets`
+abbrev pub coming : Packets → List (Result (List ℕ) Flaw)
+coming s = parts_of s.rest.now
 
 -- packets one after another
 unfoldable pub joined : List (List ℕ) → List ℕ

@@ -1,14 +1,15 @@
 // T2-MI packets (002, clause 5.1): their header and payload, read and written, and the cut of packets back to back.
 #![tactic(auto)]
 
-ghost use Rattle.std.specs.Prelude.{◌≡◌, drop};
+ghost use Rattle.std.specs.Prelude.{◌≡◌};
+ghost use Rattle.std.specs.Iterator.{YieldsFirstBy, item_count};
 ghost use Rattle.fields.specs.Formats.{pack, too_wide};
 ghost use Rattle.refusals.specs.Checks.{first};
 ghost use Rattle.refusals.specs.Answers.{code, bytes_of};
 ghost use Rattle.packet.specs.Layout.{header, reserved_type, count_after, payload_bytes, total_of, pad_set, size_of};
 ghost use Rattle.packet.specs.Read.{header_of, reserved_set, read_checks, read_of, packet_told, payload_read};
 ghost use Rattle.packet.specs.Write.{fields_of, write_checks, write_of};
-ghost use Rattle.packet.specs.Cut.{judge_of, Means, batch_fault};
+ghost use Rattle.packet.specs.Cut.{judge_of, Means, parts_of, shown, coming, batch_fault};
 
 use refusals::Refusal;
 
@@ -81,42 +82,78 @@ fn pad_set(bits: u32, payload: &[u8]) -> bool
     last % (1u8 << pad) != 0
 }
 
-// The length that the packet of s at at gives itself.
-// Here and in judge a place stands beside the slice, and no part is lent: docs/STATEMENTS.md has both for any place.
-pub fn own_length(s: &[u8], at: usize) -> usize
-    ensures { result ≡ size_of (drop at s.now) }
+// The length that the packet that s begins with gives itself.
+#[tactic(auto, unfolding(crate::specs::Layout::size_of))]
+pub fn own_length(s: &[u8]) -> usize
+    ensures { result ≡ size_of s.now }
 {
-    if s.len() < at {
-        return 10;
-    }
-    let high = fields::byte_at(s, at + 4);
-    let low = fields::byte_at(s, at + 5);
+    let high = fields::byte_at(s, 4);
+    let low = fields::byte_at(s, 5);
     total(high as u32 * 256 + low as u32)
 }
 
-// The length of the good packet that s begins with at at.
-pub fn judge(s: &[u8], at: usize) -> Result<usize, Flaw>
-    ensures { result ≡ judge_of (drop at s.now) }
+// The length of the good packet that s begins with.
+#[tactic(auto, unfolding(crate::specs::Cut::judge_of))]
+pub fn judge(s: &[u8]) -> Result<usize, Flaw>
+    ensures { result ≡ judge_of s.now }
 {
-    let size = own_length(s, at);
-    if !fields::within(at, size, s.len()) {
+    let size = own_length(s);
+    if s.len() < size {
         return Err(Flaw::Short);
     }
-    let end = at + size;
-    if crc::holds(&s[at..end]) {
+    if crc::holds(&s[..size]) {
         return Ok(size);
     }
     Err(Flaw::Bad)
 }
 
+// The packets that bytes begin with, back to back, each as a part of them; a flaw is the last that comes.
+#[derive(Drop)]
+pub struct Packets<'a> {
+    rest: &'a [u8],
+}
+
+impl<'a> Packets<'a> {
+    // The packets of s.
+    pub fn of(s: &'a [u8]) -> Packets<'a>
+        ensures { coming result ≡ parts_of s.now }
+    {
+        Packets { rest: s }
+    }
+}
+
+impl<'a> Iterator for Packets<'a> {
+    type Item = Result<&'a [u8], Flaw>;
+
+    ghost next_gives = { YieldsFirstBy shown coming };
+
+    ghost remaining = { item_count coming };
+
+    fn next(&mut self) -> Option<Result<&'a [u8], Flaw>> {
+        if self.rest.is_empty() {
+            return None;
+        }
+        match judge(self.rest) {
+            Ok(size) => {
+                let (packet, rest) = self.rest.split_at(size);
+                self.rest = rest;
+                Some(Ok(packet))
+            }
+            Err(flaw) => {
+                self.rest = &self.rest[..0]; // nothing comes behind a flaw
+                Some(Err(flaw))
+            }
+        }
+    }
+}
+
 // Refuses packets back to back for the first flaw of them.
+#[tactic(auto, using(crate::proofs::BatchLaws::fault_parts))]
 pub fn check_batch(batch: &[u8]) -> Result<(), Refusal>
     ensures { code result ≡ batch_fault batch.now }
 {
-    let mut at = 0;
-    // No range: each packet's own length tells where the next begins.
-    while at < batch.len() {
-        at += judge(batch, at)?;
+    for packet in Packets::of(batch) {
+        packet?;
     }
     Ok(())
 }
@@ -151,7 +188,7 @@ fn check_read(s: &[u8]) -> Result<(), Refusal>
     if s.len() < 10 {
         return Err(Refusal::SliceUnder10);
     }
-    let size = own_length(s, 0);
+    let size = own_length(s);
     if s.len() != size {
         return Err(Refusal::LengthUnlikePayloadLen);
     }

@@ -1,7 +1,8 @@
 -- `carry::left_after` meets its contract.
-use Rattle.std.proofs.Common.{◌≡◌, ℕ, ◌+◌, ◌-◌, ◌<◌, ◌≤◌, List, drop, sym, ap, ◌∙◌, arith, rules, drop-drop}
+use Rattle.std.proofs.Common.{◌≡◌, ℕ, ◌+◌, ◌-◌, ◌<◌, ◌≤◌, List, length, drop, sym, ap, ◌∙◌, arith, rules, drop-drop}
 use borrow.Author.Tests.{leb-true, leb-false}
 use lib.Dec.{leb}
+use Rattle.std.proofs.lemmas.Slice.{between_to_end}
 use Rattle.fields.proofs.Cases.{cases}
 use Rattle.fields.proofs.NumberLaws.{bytes_drop}
 use Rattle.packet.specs.Layout.{size_of}
@@ -9,6 +10,7 @@ use Rattle.packet.proofs.LayoutLaws.{size-least, size-most}
 use Rattle.carry.proofs.ByteLaws.{left-none, left-past, left_in}
 use Rattle.carry.specs.OnBytes.{left_of}
 use Rattle.carry.proofs.left_after.Goals as goal
+use Rattle.carry.proofs.left_after.Goals.{After-own_length-end}
 
 -- one packet on, from a place before n
 module _ (b : List ℕ) (n end size : ℕ) (e : size ≡ size_of (drop end b)) (h : end < n) (i : left_of (n - end) (drop end b) ≡ left_of n b) where
@@ -37,10 +39,16 @@ module _ (b : List ℕ) (n end size : ℕ) (e : size ≡ size_of (drop end b)) (
       ap (λ (j : ℕ). left_of j (drop (end + size) b)) m ∙ left-none (drop (end + size) b) ∙ (let z : 0 ≡ end + size - n = omega arith in z) ∙ over (leb-true _ _ t))
       (λ t. past (leb-false _ _ t))
 
+-- the length of the packet at the place
+own : (c : After-own_length-end) → c.own_length-end.result ≡ size_of (drop c.loop-end.end c.args.batch.now)
+own c =
+    let b = c.args.batch.now in
+    c.own_length-end.ensures ∙ ap size_of (between_to_end b c.loop-end.end (length b) (omega arith))
+
 pub overflow_add-end : goal.overflow_add-end
 overflow_add-end c =
     let b = c.args.batch.now in
-    omega (arith, c.own_length-end.ensures, size-most (drop c.loop-end.end b) (bytes_drop c.loop-end.end b (search rules)), c.requires)
+    omega (arith, own (goal.at.overflow_add-end c).After-own_length-end, size-most (drop c.loop-end.end b) (bytes_drop c.loop-end.end b (search rules)), c.requires)
 
 pub loop-end-init : goal.loop-end-init
 loop-end-init c =
@@ -49,15 +57,16 @@ loop-end-init c =
     (λ h. let z : n - 0 ≡ n = omega arith in ap (λ (k : ℕ). left_of k b) z, λ h. let z : n ≡ 0 = omega arith in let y : 0 - n ≡ 0 = omega arith in y ∙ sym (left-none b) ∙ ap (λ (k : ℕ). left_of k b) (sym z))
 
 pub loop-end-smaller : goal.loop-end-smaller
-loop-end-smaller c = omega (arith, c.own_length-end.ensures, size-least (drop c.loop-end.end c.args.batch.now))
+loop-end-smaller c = omega (arith, own (goal.at.loop-end-smaller c).After-own_length-end, size-least (drop c.loop-end.end c.args.batch.now))
 
 pub loop-end-preserved : goal.loop-end-preserved
 loop-end-preserved c =
     let l = c.loop-end in
     let b = c.args.batch.now in
     let h : l.end < c.args.bytes = c.loop-end-test.true in
+    let e = own (goal.at.loop-end-preserved c).After-own_length-end in
     let i = l.invariant.0 (omega arith) in
-    (upto b c.args.bytes l.end _ c.own_length-end.ensures h i, over b c.args.bytes l.end _ c.own_length-end.ensures h i)
+    (upto b c.args.bytes l.end _ e h i, over b c.args.bytes l.end _ e h i)
 
 pub returns : goal.returns
 returns c = c.loop-end.invariant.1 (omega arith)

@@ -1,15 +1,14 @@
--- `lines::lay_lines` meets its contract: laying from the loop's place on what is left is laying all from the start.
-use lib.ListN.{length, drop}
+-- `lines::lay_lines` meets its contract: laying the lines of what is left is laying all from the start.
+use lib.ListN.{length}
 use mathlib.Core.Path.{◌≡◌}
-use Prim.Native.Nat.{◌+◌, ◌-◌, ◌*◌, ◌≤◌}
+use Prim.Native.Nat.{◌+◌, ◌*◌, ◌≤◌}
+use Rattle.packet.specs.Cut.{cut, joined}
 use Rattle.text.specs.Laid.{laid}
-use Rattle.lines.proofs.LineLaws.{lines_from}
+use Rattle.lines.specs.Lines.{lines_of}
 use Rattle.lines.proofs.lay_lines.Given as goal
 
-abbrev pub invariant-loop-i : goal.invariant-loop-i
-invariant-loop-i l =
+abbrev pub invariant-loop-packet : goal.invariant-loop-packet
+invariant-loop-packet l =
     let t = l.text in
-    (l.i ≤ length l.s) × (t.at + 2 * (length l.s - l.i) ≤ length t.lines.now) × (t.lines.ghost_name ≡ l.initial.text.lines.ghost_name) × (laid (lines_from (drop l.i l.s)) t.at t.lines.now ≡ laid (lines_from l.s) l.initial.text.at l.initial.text.lines.now)
-
-abbrev pub decreases-loop-i : goal.decreases-loop-i
-decreases-loop-i l = length l.s - l.i
+    let ps = (cut l.packet-iterator.rest.now).packets in
+    (t.at + 2 * length (joined ps) ≤ length t.lines.now) × (t.lines.ghost_name ≡ l.initial.text.lines.ghost_name) × (laid (lines_of ps) t.at t.lines.now ≡ laid (lines_of (cut l.s).packets) l.initial.text.at l.initial.text.lines.now)
