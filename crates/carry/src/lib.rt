@@ -197,7 +197,7 @@ fn put_piece(t: &mut [u8], pid: u16, count: u8, piece: Piece)
             t[187 - n] = pointer;
         }
     }
-    t[188 - n..].copy_from_slice(piece.bytes);
+    fields::copy(t, 188 - n, n, piece.bytes, 0);
 }
 
 // Lays all transport packets of a batch over the front of out, the counts rising from the first.
