@@ -71,8 +71,7 @@ fn refused_line(refusal: Refusal) -> Line
 {
     let mut line = Line::new();
     line.push_str("refused ");
-    lay_word(&mut line, u64::from(refusal.number()), '
-');
+    lay_word(&mut line, u64::from(refusal.number()), '\n');
     line
 }
 
