@@ -216,6 +216,7 @@ fn follow(onward: &[u8], h: Numbers, output: &mut [u8]) -> Numbers
 {
     let mut held = h;
     let mut rest = onward;
+    // Not over packet::Packets: what is left behind the good packets waits, and the iterator keeps that to itself.
     loop {
         match packet::judge(rest) {
             Err(Flaw::Short) => return held.waits(rest.len()),

@@ -1,15 +1,12 @@
 -- The laws of lines: how long one is, and how the lines of packets that stand back to back go on.
 -- Assumes nothing.
 use mathlib.Core.Path.{◌≡◌, refl, sym, ap, ◌∙◌}
-use mathlib.Core.Bool.{Bool, true, false}
-use mathlib.Core.List.{List, [], ◌∷◌, ◌++◌}
-use Prim.Native.Nat.{ℕ, ◌+◌, ◌-◌, ◌*◌, ◌≤◌, ◌<◌}
+use mathlib.Core.List.{List, [], ◌∷◌}
+use Prim.Native.Nat.{ℕ, ◌+◌, ◌*◌, ◌≤◌, ◌<◌}
 use native.Mathlib.Omega.{arith}
-use lib.Dec.{leb, eqb, lit<}
-use lib.ListN.{length, take, drop, length-append, length-drop}
-use lib.Seq.{length-take-le, drop-drop}
-use borrow.Author.Tests.{eq-eqb, ne_eqb, eqb-true, eqb-false, le-ltb, leb-false}
-use Rattle.crc.specs.Crc.{crc_holds}
+use lib.Dec.{eqb, lit<}
+use lib.ListN.{length, length-append}
+use borrow.Author.Tests.{eq-eqb, ne_eqb, eqb-true, eqb-false}
 use Rattle.fields.specs.Formats.{unpack, Fit}
 use Rattle.fields.specs.Parts.{number_at, overlay}
 use Rattle.fields.proofs.Cases.{cases}
@@ -19,14 +16,13 @@ use Rattle.std.specs.Prelude.{Result, Ok, Err}
 use Rattle.refusals.specs.Refusals.{number_of}
 use Rattle.refusals.specs.declared.Refusal.{Refusal}
 use Rattle.refusals.proofs.NumberLaws.{number-not-0}
-use Rattle.refusals.specs.Checks.{Check, ◌when◌, holds, number, first}
-use Rattle.packet.specs.Layout.{header, size_of, reserved_type, pad_set}
-use Rattle.packet.specs.Read.{field, header_of, payload_of, reserved_set, read_checks, no_header, read_of, Packet, packet_told}
+use Rattle.refusals.specs.Checks.{Check, holds, number, first}
+use Rattle.packet.specs.Layout.{header}
+use Rattle.packet.specs.Read.{header_of, read_checks, no_header, Packet, packet_told}
 use Rattle.packet.specs.Cut.{Whole, joined}
 use Rattle.packet.specs.declared.Header.{Header}
-use Rattle.packet.proofs.LayoutLaws.{size-least, size-take}
-use Rattle.packet.proofs.CutLaws.{cut_short, cut-bad, cut-good}
-use Rattle.packet.proofs.RoundTrips.{read-shows, read-accepted, read-refused}
+use Rattle.packet.proofs.LayoutLaws.{size-least}
+use Rattle.packet.proofs.RoundTrips.{read-accepted, read-refused}
 use Rattle.text.specs.Laid.{space, newline, word, laid, appended}
 use Rattle.lines.specs.Lines.{fields_line, refused_word, refused_line, line_by, line_of, lines_of}
 use Rattle.text.proofs.LayLaws.{appended-fits, laid-at, laid-lines, laid_next, laid_nil, word-few}

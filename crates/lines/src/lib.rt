@@ -114,7 +114,8 @@ pub fn head_line(text: &mut Text)
     text.append(b"type count frame stream bits\n");
 }
 
-// Lays the lines of the packets of s, which stand back to back, up to the first that is not whole.
+// Lays the lines of the packets of s, which stand back to back, up to the first that is not whole. The CRC that reading judges
+// is known to hold by then; optimised, the program looks at it once.
 fn lay_lines(text: &mut Text, s: &[u8])
     requires { text.old.at + 2 * length s.now ≤ length text.old.lines.now }
     ensures { Lays (lines_of (cut s.now).packets) text.old text.new }

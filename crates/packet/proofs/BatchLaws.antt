@@ -123,6 +123,9 @@ parts-good l =
     before-flaw (cut l).packets _ (cases (eqb (length (cut l).rest) 0) (λ b. rw b refl) (λ b. rw b (no-good (judge_of (cut l).rest))))
 
 -- so a good part is the first packet of the cut, and where none is left, or a flaw comes, the cut has none
+pub parts-same : (l m : List ℕ) → parts_of l ≡ parts_of m → (cut l).packets ≡ (cut m).packets
+parts-same l m e = sym (parts-good l) ∙ ap ok_prefix e ∙ parts-good m
+
 pub parts-next : (l m p : List ℕ) → parts_of l ≡ Ok p ∷ parts_of m → (cut l).packets ≡ p ∷ (cut m).packets
 parts-next l m p e = sym (parts-good l) ∙ ap ok_prefix e ∙ ap (λ (x : List (List ℕ)). p ∷ x) (parts-good m)
 
