@@ -14,8 +14,8 @@ ghost use Rattle.addressing.specs.Cursor.{header_told, group_header, function_he
 use refusals::Refusal;
 pub use walks::{Walk, walk_from};
 
-// The first fault of addressing data in byte order: why it is refused, and the byte, counted from the data's first, of the group or function
-// header where the check stopped.
+// The first fault of addressing data in byte order: why it is refused, and the byte, counted from the data's first, of
+// the group or function header where the check stopped.
 #[derive(Clone, Copy, Debug, PartialEq, Eq)]
 pub struct Fault {
     pub refusal: Refusal,
@@ -60,8 +60,8 @@ enum Header {
     Function { tag: u8, body: usize },
 }
 
-// What a walk from a place has seen of the functions for its transmitter: whether it reaches the place, and the answer for the first
-// function that begins there or later.
+// What a walk from a place has seen of the functions for its transmitter: whether it reaches the place, and the answer
+// for the first function that begins there or later.
 #[derive(Clone, Copy)]
 struct Seen {
     place: usize,
@@ -69,8 +69,8 @@ struct Seen {
     first: Option<Walked>,
 }
 
-// The house rule: function_length counts both of the function's own bytes before its body, tag and length (01). Every function that looks at
-// a function_length takes how many of them it counts.
+// The house rule: function_length counts both of the function's own bytes before its body, tag and length (01). Every
+// function that looks at a function_length takes how many of them it counts.
 const HOUSE: u8 = 2;
 
 // How many bytes the body of the function at the front of l has.
@@ -177,7 +177,8 @@ impl Seen {
         self.reached || self.place == other
     }
 
-    // What it has seen after the function at place at, for which w is the answer. A function that is not heard changes nothing.
+    // What it has seen after the function at place at, for which w is the answer. A function that is not heard changes
+    // nothing.
     fn after(self, heard: bool, at: usize, w: Walked) -> Seen
         ensures { result ≡ seen_after heard at w self }
     {
@@ -191,7 +192,8 @@ impl Seen {
         }
     }
 
-    // The walk's answer where no function is left: the first that begins at the place or later, or the end, if the walk reaches the place.
+    // The walk's answer where no function is left: the first that begins at the place or later, or the end, if the walk
+    // reaches the place.
     fn finished(self, end: usize) -> Result<Walked, Refusal>
         ensures { walked_told result ≡ answer_of end self }
     {
@@ -308,7 +310,8 @@ fn check_write(data: &[u8], room: usize) -> Result<(), Refusal>
     Ok(())
 }
 
-// Writes an addressing payload to the front of out: a reserved byte of zero, the length, and the data; gives how many bytes it has.
+// Writes an addressing payload to the front of out: a reserved byte of zero, the length, and the data; gives how many
+// bytes it has.
 #[tactic(auto, unfolding(crate::specs::Payload::write_of, refusals::specs::Answers::written, refusals::specs::Answers::answer))]
 pub fn payload_write(data: &[u8], out: &mut [u8]) -> Result<u32, Refusal>
     ensures { record { answer = bytes_of result; out = out.new } ≡ write_of house «data».now out.old }

@@ -1,5 +1,5 @@
-// A walk for one transmitter that keeps the caller's addressing bytes and its place (01, "Code places and their forms"). `walk`
-// judges and finds, on slice and numbers; what stands here is thin.
+// A walk for one transmitter that keeps the caller's addressing bytes and its place (01, "Code places and their
+// forms"). `walk` judges and finds, on slice and numbers; what stands here is thin.
 ghost use Rattle.std.specs.Prelude.{◌≡◌, OnErr};
 ghost use Rattle.addressing.specs.Data.{house};
 ghost use Rattle.addressing.specs.Walk.{walk_of, walked_told};
@@ -9,7 +9,7 @@ use super::{Given, Walked, walk};
 use refusals::Refusal;
 
 // A walk: the addressing data, whose walk it is, and the place that it has come to.
-#[derive(Clone, Copy)]
+#[derive(Clone, Copy, Debug, PartialEq, Eq)]
 pub struct Walk<'a> {
     pub data: &'a [u8],
     pub transmitter: u16,
@@ -28,8 +28,8 @@ impl<'a> Walk<'a> {
         }
     }
 
-    // One step: the function that the walk finds at its place, or none at the data's end. The walk is then at the next place; with a
-    // refusal it stays where it was (01, "hands back the old state").
+    // One step: the function that the walk finds at its place, or none at the data's end. The walk is then at the next
+    // place; with a refusal it stays where it was (01, "hands back the old state").
     #[tactic(auto, unfolding(crate::specs::Steps::place_after))]
     pub fn step(&mut self) -> Result<Option<Given>, Refusal>
         ensures step { record { answer = step_told self.new.at result; walk = self.new } ≡ stepped_of self.old }
@@ -41,8 +41,8 @@ impl<'a> Walk<'a> {
     }
 }
 
-// A step from a place, for a caller that keeps slice and place itself: every caller of other crates. Its contract names no struct of a
-// walk.
+// A step from a place, for a caller that keeps slice and place itself: every caller of other crates. Its contract names
+// no struct of a walk.
 pub fn walk_from(data: &[u8], transmitter: u16, place: usize) -> Result<Walked, Refusal>
     ensures { walked_told result ≡ walk_of house «data».now transmitter place }
 {

@@ -5,14 +5,12 @@ use mathlib.Core.List.{List, [], ◌∷◌, ◌++◌, append_assoc}
 use Prim.Native.Nat.{ℕ, zero, suc, ◌+◌, ◌-◌, ◌≤◌, ◌<◌}
 use native.Mathlib.Nat.{zero-add, add-zero}
 use native.Mathlib.Omega.{arith}
-use borrow.Rule.Slice.PartMut.{put_mid}
-use lib.Seq.{drop-drop}
-use lib.ListN.{length, take, drop, set, replicate, length-append, length-replicate, replicate-append-replicate}
+use lib.ListN.{length, drop, set, replicate, length-append, length-replicate, replicate-append-replicate}
 use Rattle.fields.specs.Formats.{pack}
 use Rattle.fields.specs.Numbers.{bytes}
-use Rattle.fields.specs.Parts.{overlay, stored_at}
+use Rattle.fields.specs.Parts.{overlay, stored_at, copied_to}
 use Rattle.fields.proofs.NumberLaws.{length-bytes}
-use Rattle.fields.proofs.PartLaws.{overlay-is, overlay-none, overlay-next, overlay-whole, set-overlay, stored-at}
+use Rattle.fields.proofs.PartLaws.{overlay-is, overlay-none, overlay-next, overlay-whole, set-overlay, stored-at, copied-whole}
 use Rattle.transport.specs.Header.{header}
 use Rattle.transport.specs.Load.{Load, plain, start, adaptation, control_for, head_bytes, transport_of}
 use Rattle.transport.proofs.LoadLaws.{length-adaptation}
@@ -115,11 +113,6 @@ abbrev pub Ready : ℕ → ℕ → Load → List ℕ → Type 0
 Ready pid count (plain d) t = t ≡ overlay 0 (head_bytes pid 0 count (184 - length d)) blank
 Ready pid count (start n d) t = t ≡ set (overlay 0 (head_bytes pid 1 count (183 - length d)) blank) (187 - length d) n
 
--- what is written from an index on lies over what was there
-pub mid-laid : (a k : ℕ) (xs ys : List ℕ) → length ys ≡ k → put_mid a k xs ys ≡ overlay a ys xs
-mid-laid a k xs ys e =
-    ap (λ (l : List ℕ). take a xs ++ (ys ++ l)) (drop-drop k a xs ∙ ap (λ (n : ℕ). drop (a + n) xs) (sym e)) ∙ sym (overlay-is a ys xs)
-
 module _ (pid count : ℕ) (t d : List ℕ) where
   plain-built : 1 ≤ length d → length d ≤ 184 → Ready pid count (plain d) t → overlay (188 - length d) d t ≡ transport_of pid count (plain d)
   unfolding transport_of
@@ -143,8 +136,6 @@ module _ (pid count : ℕ) (t d : List ℕ) where
 
 -- what is written last is the load's bytes
 pub built : (pid count : ℕ) (o : Option ℕ) (d : List ℕ) → Held (load_with o d) → (t : List ℕ) → length t ≡ 188 → Ready pid count (load_with o d) t
-    → put_mid (188 - length d) (length t - (188 - length d)) t d ≡ transport_of pid count (load_with o d)
-built pid count None d h t e r =
-    mid-laid (188 - length d) (length t - (188 - length d)) t d (omega (arith, h.0, h.1, e)) ∙ plain-built pid count t d h.0 h.1 r
-built pid count (Some n) d h t e r =
-    mid-laid (188 - length d) (length t - (188 - length d)) t d (omega (arith, h, e)) ∙ start-built pid count t d n h r
+    → copied_to (188 - length d) (length d) d 0 t ≡ transport_of pid count (load_with o d)
+built pid count None d h t e r = copied-whole (188 - length d) d t (omega (arith, h.0, h.1, e)) ∙ plain-built pid count t d h.0 h.1 r
+built pid count (Some n) d h t e r = copied-whole (188 - length d) d t (omega (arith, h, e)) ∙ start-built pid count t d n h r

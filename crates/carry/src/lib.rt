@@ -197,12 +197,13 @@ fn put_piece(t: &mut [u8], pid: u16, count: u8, piece: Piece)
             t[187 - n] = pointer;
         }
     }
-    t[188 - n..].copy_from_slice(piece.bytes);
+    fields::copy(t, 188 - n, n, piece.bytes, 0);
 }
 
 // Lays all transport packets of a batch over the front of out, the counts rising from the first.
 fn put_pieces(pid: u16, first_count: u8, batch: &[u8], out: &mut [u8]) -> Sent
-    requires { (first_count < 16) × (length batch.now ≤ 65536) × (188 * length (loads_from 0 batch.now) ≤ length out.old) }
+    requires small { (first_count < 16) × (length batch.now ≤ 65536) }
+    requires room { 188 * length (loads_from 0 batch.now) ≤ length out.old }
     ensures { Laid pid first_count (loads_from 0 batch.now) out.old result out.new }
 {
     let mut packets = 0;

@@ -7,7 +7,7 @@ use native.Mathlib.Nat.{add-zero, zero-add, add_assoc}
 use native.Mathlib.Numerals.{add-one}
 use native.Mathlib.Omega.{arith}
 use lib.ListN.{length, get_or, set, replicate, take, drop, length-append, length-drop, take-append-drop, drop_of_length-le}
-use lib.Seq.{length-take-le, take_at, drop_at, take-take, take-add, drop-drop, drop-append-add, take-suc, drop-cons, get_or-take, get_or-drop, set_at, take-length}
+use lib.Seq.{length-take-le, take_all, take_at, drop_at, take-take, take-add, drop-drop, drop-append-add, take-suc, drop-cons, get_or-take, get_or-drop, set_at, take-length}
 use borrow.Author.Tests.{le-leb}
 use borrow.Rule.Slice.PartMut.{put_mid}
 use Rattle.std.proofs.lemmas.List.{drop-take}
@@ -176,6 +176,20 @@ stored-at at n v l h k = simp (le-leb _ _ h, le-leb _ _ k)
 pub copied-to : (at n : ℕ) (s : List ℕ) (from : ℕ) (l : List ℕ) → from + n ≤ length s → at + n ≤ length l → copied_to at n s from l ≡ overlay at (part from n s) l
 unfolding copied_to
 copied-to at n s from l h k = simp (le-leb _ _ h, le-leb _ _ k)
+
+-- the first n of them, all, and the last n laid at the front
+pub copied-front : (at n : ℕ) (s l : List ℕ) → n ≤ length s → at + n ≤ length l → copied_to at n s 0 l ≡ overlay at (take n s) l
+unfolding part
+copied-front at n s l h k = copied-to at n s 0 l (omega arith) k
+
+pub copied-whole : (at : ℕ) (s l : List ℕ) → at + length s ≤ length l → copied_to at (length s) s 0 l ≡ overlay at s l
+copied-whole at s l k = copied-front at (length s) s l (omega arith) k ∙ ap (λ (p : List ℕ). overlay at p l) (take-length s)
+
+pub copied-end : (n : ℕ) (s l : List ℕ) → n ≤ length s → n ≤ length l → copied_to 0 n s (length s - n) l ≡ overlay 0 (drop (length s - n) s) l
+unfolding part
+copied-end n s l h k =
+    copied-to 0 n s (length s - n) l (omega arith) (omega arith)
+    ∙ ap (λ (p : List ℕ). overlay 0 p l) (take_all n (drop (length s - n) s) (simp length-drop (omega arith)))
 
 pub filled_at_lem : (at n b : ℕ) (l : List ℕ) → at + n ≤ length l → filled_at at n b l ≡ overlay at (replicate n b) l
 unfolding filled_at

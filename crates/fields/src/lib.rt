@@ -57,7 +57,8 @@ pub fn copy(dst: &mut [u8], at: usize, n: usize, src: &[u8], from: usize)
     if !within(from, n, src.len()) || !within(at, n, dst.len()) {
         return;
     }
-    // Not `copy_from_slice`: it calls memmove, and the static library needs memcpy and memset alone of C (include/sfn.h).
+    // Here and in the crates above no `copy_from_slice` between lent slices: it calls memmove, and the static library needs
+    // memcpy and memset alone of C (include/sfn.h).
     for (i, b) in src[from..from + n].iter().enumerate() {
         dst[at + i] = *b;
     }

@@ -8,14 +8,13 @@ use native.Mathlib.Nat.{zero-add, suc-ne-zero}
 use native.Mathlib.Omega.{arith}
 use lib.Dec.{leb}
 use lib.ListN.{length, take, drop, length-append, length-drop}
-use lib.Seq.{length-take-le, drop-drop, take_all, take-append-add}
+use lib.Seq.{length-take-le, take_all, take-append-add}
 use borrow.Author.Tests.{eq-eqb, ne_eqb, eqb-true, leb-true, leb-false}
 use Rattle.crc.specs.Crc.{crc_holds}
 use Rattle.fields.specs.Numbers.{Bytes}
-use borrow.Rule.Slice.PartMut.{put_mid}
 use Rattle.fields.specs.Parts.{overlay}
 use Rattle.fields.proofs.Cases.{cases}
-use Rattle.fields.proofs.PartLaws.{overlay-is, overlay-none, take-overlay}
+use Rattle.fields.proofs.PartLaws.{overlay-none, take-overlay}
 use Rattle.packet.specs.Layout.{size_of}
 use Rattle.packet.specs.Cut.{joined}
 use Rattle.packet.proofs.LayoutLaws.{size-least, size-most, size-append}
@@ -147,14 +146,6 @@ module _ (e : Numbers) (d g o : List ℕ) (ready : Ready e g o) where
     unfolding led_of joined
     led-strays n r q =
         rw (strays-in d h s empty, none-joins d h s empty, n) (laid_none e g o r ∙ ap (λ (x : Numbers). record { held = x; gathering = overlay e.waiting [] g; output = overlay 0 [] o }) (q ∙ rw (left.bytes, left.packets)))
-
--- bytes stored over as many others of a list, and over its first
-module _ (n : ℕ) (l p q : List ℕ) (e : q ≡ p) (f : length p ≡ n) where
-  pub laid_over : (w : ℕ) → put_mid w n l q ≡ overlay w p l
-  laid_over w = rw (e, ← f, overlay-is w p l, drop-drop (length p) w l)
-
-  pub laid_front : q ++ drop n l ≡ overlay 0 p l
-  laid_front = rw (e, ← f, overlay-is 0 p l, zero-add (length p))
 
 -- d joins, and `size` is the packet's own length
 pub record Joins (e : Numbers) (d g o : List ℕ) (size : ℕ) : Type 0 where

@@ -176,15 +176,15 @@ fn join(d: &[u8], e: Numbers, gathering: &mut [u8], output: &mut [u8]) -> Number
     let all = w + d.len();
     let size = joined_length(&gathering[..w], d);
     if all < size {
-        gathering[w..all].copy_from_slice(d);
+        fields::copy(gathering, w, d.len(), d, 0);
         return e.waits(all);
     }
-    let used = &d[..size - w];
-    gathering[w..w + used.len()].copy_from_slice(used);
+    let used = size - w;
+    fields::copy(gathering, w, used, d, 0);
     if !crc::holds(&gathering[..size]) {
         return e.crc_fails();
     }
-    output[..size].copy_from_slice(&gathering[..size]);
+    fields::copy(output, 0, size, gathering, 0);
     let handed = e.hands_out(size);
     if size < all {
         return handed.misfits();
@@ -221,11 +221,9 @@ fn follow(onward: &[u8], h: Numbers, output: &mut [u8]) -> Numbers
             Err(Flaw::Short) => return held.waits(rest.len()),
             Err(Flaw::Bad) => return held.crc_fails(),
             Ok(size) => {
-                let (packet, behind) = rest.split_at(size);
-                let w = held.bytes;
-                output[w..w + size].copy_from_slice(packet);
+                fields::copy(output, held.bytes, size, rest, 0);
                 held = held.hands_out(size);
-                rest = behind;
+                rest = &rest[size..];
             }
         }
     }
@@ -244,8 +242,8 @@ fn with_start(
 {
     let front = lead(before, e, gathering, output);
     let held = follow(onward, front.unfinished(), output);
-    let rest = &onward[onward.len() - held.waiting..];
-    gathering[..rest.len()].copy_from_slice(rest);
+    let waits = held.waiting;
+    fields::copy(gathering, 0, waits, onward, onward.len() - waits);
     held
 }
 

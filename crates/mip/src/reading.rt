@@ -22,8 +22,8 @@ struct Lead {
 // The fixed bits of every MIP: no error mark, start and priority 1, PID 0x15, scrambling 00, adaptation control 01.
 const FIXED: u32 = 0x6_0151;
 
-// The header's and the parameters' fields. The header is read as one number, and the parameters as three; a field lies as many
-// bits from the end of its number as the fields behind it take.
+// The header's and the parameters' fields. The header is read as one number, and the parameters as three; a field lies
+// as many bits from the end of its number as the fields behind it take.
 fn lead_of(packet: &[u8; 188]) -> Lead
     ensures { result ≡ lead_of packet.now }
 {

@@ -35,7 +35,8 @@ fn check_write(m: Mip, addressing: &[u8], room: usize) -> Result<(), Refusal>
     Ok(())
 }
 
-// Lays the header and the parameters over the front of out, as four numbers. The first is the header's fixed bits and its count.
+// Lays the header and the parameters over the front of out, as four numbers. The first is the header's fixed bits and
+// its count.
 fn lay_lead(out: &mut [u8], m: Mip, addressing: usize)
     requires { (field_wide m addressing ≡ false) × (addressing ≤ 163) × (21 ≤ length out.old) }
     ensures { out.new ≡ overlay 0 (lead_bytes m addressing) out.old }

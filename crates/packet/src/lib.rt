@@ -121,7 +121,8 @@ pub fn check_batch(batch: &[u8]) -> Result<(), Refusal>
     Ok(())
 }
 
-// The header's fields of s, zeros where s has no header. Each lies as many bits from the end as the fields behind it take.
+// The header's fields of s, zeros where s has no header. Each lies as many bits from the end as the fields behind it
+// take.
 fn header_of(s: &[u8]) -> Header
     ensures { result ≡ header_of s.now }
 {

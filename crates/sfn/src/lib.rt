@@ -196,16 +196,6 @@ fn count_32(n: usize) -> u32
     n as u32
 }
 
-// A flag as a number.
-fn bit(b: bool) -> u8
-    ensures { result ≡ bit_of b }
-{
-    if b {
-        return 1;
-    }
-    0
-}
-
 // A function of a kind, with no fields: its tag is its kind.
 fn of_kind(kind: u8) -> SfnFunction
     ensures { result ≡ of_kind 0 kind (pos 0) 0 0 }

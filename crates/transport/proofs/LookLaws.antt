@@ -31,11 +31,11 @@ module _ (pid : ℕ) (t : List ℕ) where
     unfolding look_checks
     first-five = rw (eq-eqb (length t) 188 whole)
 
+    -- a refusal's number alone
     pub look-refused : (n : ℕ) → n ≡ first (transport_checks pid t) → (n ≡ 0 → ⊥) → nothing_in n ≡ look_of pid t
     unfolding look_of
     look-refused n e h = answer-number (look_checks pid t) nothing_in (stands_in t) n (e ∙ sym first-five) h
 
-    -- the exit of a `?`
     pub look-exit : (r : Result given.Looked Refusal) (e : Refusal) → IsErrAnd r (λ y. y ≡ e) → number_of e ≡ first (transport_checks pid t) → look_told r ≡ look_of pid t
     unfolding look_of
     look-exit r e p h = answer-exit (look_checks pid t) nothing_in (stands_in t) seen_told r e p (h ∙ sym first-five)

@@ -54,7 +54,10 @@ well c = carriable _ _ _ _ (sym c.in_ok-check_carry.ensures)
 pub put_pieces-requires : goal.put_pieces-requires
 put_pieces-requires c =
     let w = well (goal.at.put_pieces-requires c).In_ok-check_carry in
-    (w.count-good, w.short, rw (loads-same _ w.good) w.roomy)
+    record {
+      small = (w.count-good, w.short);
+      room = rw (loads-same _ w.good) w.roomy;
+    }
 
 pub returns : goal.returns
 returns c =

@@ -1,6 +1,5 @@
 -- `carry::put_piece` meets its contract: the bytes fill what the head, and the pointer behind it, leave.
 use Rattle.std.proofs.Common.{◌≡◌, ℕ, ◌-◌, List, length, set, ap, ◌∙◌}
-use borrow.Rule.Slice.PartMut.{put_mid}
 use Rattle.std.specs.Prelude.{Option, Some, None}
 use Rattle.fields.specs.Parts.{overlay}
 use Rattle.transport.specs.Load.{head_bytes}
@@ -27,5 +26,4 @@ returns c =
       | in-None w ↦ plain-ready a.pid a.count a.piece.pointer d t _ w.in-None.is w.t-is w.put_head.ensures
       | in-Some w ↦ start-ready a.pid a.count a.piece.pointer d t _ _ w.in-Some.is w.t-is w.put_head-in-Some.ensures
     ] in
-    ap (put_mid (188 - length d) (length t - (188 - length d)) t) c.copy_from_slice.ensures.after
-    ∙ built a.pid a.count a.piece.pointer d c.requires.1 t (c.match-piece.auto.t ∙ c.requires.0) r
+    c.copy.ensures ∙ built a.pid a.count a.piece.pointer d c.requires.1 t (c.match-piece.auto.t ∙ c.requires.0) r

@@ -2,11 +2,10 @@
 use Rattle.std.proofs.Common.{◌≡◌, ℕ, ◌+◌, ◌-◌, ◌*◌, ◌%◌, ◌≤◌, List, [], ◌∷◌, ◌++◌, length, take, drop, refl, sym, ap, ◌∙◌, arith, length-drop}
 use lib.Seq.{length-take-le}
 use Rattle.fields.specs.Parts.{overlay}
-use Rattle.fields.proofs.PartLaws.{overlay-none, overlay-next, length-overlay}
+use Rattle.fields.proofs.PartLaws.{overlay-none, overlay-next, length-overlay, written-part}
 use Rattle.packet.specs.Cut.{joined}
 use Rattle.transport.specs.Load.{Load, plain, start, transport_of}
 use Rattle.transport.proofs.LoadLaws.{Sound, sound-plain, sound-start, transport-length}
-use Rattle.carry.proofs.BuildLaws.{mid-laid}
 use Rattle.carry.proofs.ByteLaws.{first-sound, loads-few}
 use Rattle.carry.specs.Building.{Held, Laid}
 use Rattle.carry.specs.Carry.{numbered}
@@ -76,7 +75,7 @@ put_piece-requires c =
 pub overflow_add-packets : goal.overflow_add-packets
 overflow_add-packets c =
     let l = c.loop-piece in
-    omega (arith, ap length c.in-Some.ensures.steps, l.invariant.whole, loads-few 0 c.args.batch.now, c.requires.1)
+    omega (arith, ap length c.in-Some.ensures.steps, l.invariant.whole, loads-few 0 c.args.batch.now, c.requires.small.1)
 
 pub loop-piece-preserved : goal.loop-piece-preserved
 loop-piece-preserved c =
@@ -85,8 +84,8 @@ loop-piece-preserved c =
     let e = c.in-Some.ensures.steps in
     let s = first-sound _ _ _ _ e in
     let t = c.put_piece.new.t in
-    let k : length t ≡ at + 188 - at = ap length c.put_piece.ensures ∙ transport-length c.args.pid l.count (load_in c.in-Some.piece) s ∙ omega arith in
-    step l.invariant _ _ e s _ (mid-laid at (at + 188 - at) l.out t k ∙ ap (λ (t : List ℕ). overlay at t l.out) c.put_piece.ensures)
+    let k : length t ≡ 188 = ap length c.put_piece.ensures ∙ transport-length c.args.pid l.count (load_in c.in-Some.piece) s in
+    step l.invariant _ _ e s _ (written-part at 188 t l.out k ∙ ap (λ (t : List ℕ). overlay at t l.out) c.put_piece.ensures)
 
 pub returns : goal.returns
 returns c = finish c.loop-piece.invariant c.in-None.ensures.steps.0

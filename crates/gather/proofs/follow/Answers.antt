@@ -1,13 +1,12 @@
 -- `gather::follow` meets its contract.
-use lib.ListN.{length, take, length-drop}
-use lib.Seq.{length-take-le}
-use mathlib.Core.Path.{◌≡◌, refl, ap, ◌∙◌}
+use lib.ListN.{length, length-drop}
+use mathlib.Core.Path.{refl, ap, ◌∙◌}
 use Rattle.std.specs.Prelude.{Err}
-use Prim.Native.Nat.{◌+◌, ◌-◌, ◌≤◌}
+use Prim.Native.Nat.{◌≤◌}
 use native.Mathlib.Omega.{arith}
-use Rattle.fields.proofs.PartLaws.{length-overlay}
-use Rattle.gather.proofs.JoinLaws.{laid_over}
+use Rattle.fields.proofs.PartLaws.{copied-front}
 use Rattle.gather.proofs.FollowLaws.{followed-short, followed-bad, lies, followed-good}
+use Rattle.gather.proofs.StartLaws.{from_on}
 use Rattle.gather.proofs.follow.Goals as goal
 use Rattle.gather.proofs.follow.Goals.{In-Ok}
 
@@ -31,11 +30,14 @@ returns-in-Err-Bad c =
 pub hands_out-held-requires : goal.hands_out-held-requires
 hands_out-held-requires c = omega (arith, good (goal.at.hands_out-held-requires c).In-Ok)
 
-pub split_at-requires : goal.split_at-requires
-split_at-requires c = omega (arith, good c)
+pub slice_bounds-rest-count : goal.slice_bounds-rest-count
+slice_bounds-rest-count c = omega (arith, good (goal.at.slice_bounds-rest-count c).In-Ok)
+
+pub slice_bounds-rest-start : goal.slice_bounds-rest-start
+slice_bounds-rest-start c = omega (arith, good (goal.at.slice_bounds-rest-start c).In-Ok)
 
 pub loop-size-smaller : goal.loop-size-smaller
-loop-size-smaller c = omega (arith, length-drop c.in-Ok.size c.loop-size.rest.now, good (goal.at.loop-size-smaller c).In-Ok)
+loop-size-smaller c = rw (from_on c.in-Ok.size c.loop-size.rest.now) (omega (arith, length-drop c.in-Ok.size c.loop-size.rest.now, good (goal.at.loop-size-smaller c).In-Ok))
 
 pub loop-size-preserved : goal.loop-size-preserved
 loop-size-preserved c =
@@ -44,14 +46,11 @@ loop-size-preserved c =
     let r = c.hands_out-held.ensures in
     let g = good (goal.at.loop-size-preserved c).In-Ok in
     let k = length-drop n l.rest.now in
-    let p : length (take n l.rest.now) ≡ n = length-take-le n l.rest.now (omega (arith, g)) in
-    let m : length (take n l.rest.now) ≡ l.held.bytes + n - l.held.bytes = omega (arith, p) in
-    let after = laid_over _ l.output (take n l.rest.now) _ (c.copy_from_slice.ensures.after ∙ c.split_at.ensures.front) m l.held.bytes in
-    let long = length-overlay l.held.bytes (take n l.rest.now) l.output (omega (arith, g)) in
-    rw (c.split_at.ensures.back, r, after) (
-      omega (arith, g, k, long),
-      omega (arith, long),
+    let after = c.copy.ensures ∙ copied-front l.held.bytes n l.rest.now l.output (omega (arith, g)) (omega (arith, g)) in
+    rw (from_on n l.rest.now, r) (
+      omega (arith, g, k, c.copy.auto),
+      omega (arith, c.copy.auto),
       omega (arith, g, k),
       omega (arith, g, k),
-      followed-good l.rest.now _ c.judge.ensures l.held l.output _ c.in-Ok.is (omega (arith, g)) _ _ refl refl ∙ l.invariant.4,
+      followed-good l.rest.now _ c.judge.ensures l.held l.output _ c.in-Ok.is (omega (arith, g)) _ _ refl after ∙ l.invariant.4,
     )

@@ -2,11 +2,11 @@
 -- the start on.
 use borrow.Author.Rules.{rules}
 use lib.ListN.{length}
-use mathlib.Core.Path.{sym, ap, ◌∙◌}
-use Prim.Native.Nat.{◌-◌, ◌≤◌}
+use mathlib.Core.Path.{◌∙◌}
+use Prim.Native.Nat.{◌≤◌}
 use native.Mathlib.Omega.{arith}
-use Rattle.gather.proofs.JoinLaws.{laid_front}
-use Rattle.gather.proofs.StartLaws.{from_on, begun-small, left-few, with-start}
+use Rattle.fields.proofs.PartLaws.{copied-end}
+use Rattle.gather.proofs.StartLaws.{begun-small, left-few, with-start}
 use Rattle.gather.proofs.with_start.Goals as goal
 use Rattle.gather.proofs.with_start.Goals.{After-follow-held, After-unfinished}
 
@@ -26,11 +26,13 @@ pub follow-held-requires : goal.follow-held-requires
 follow-held-requires c =
     omega (arith, small (goal.at.follow-held-requires c).After-unfinished, c.lead-front.auto, c.requires)
 
-pub overflow_sub-rest : goal.overflow_sub-rest
-overflow_sub-rest c = omega (arith, few (goal.at.overflow_sub-rest c).After-follow-held)
+pub overflow_sub-onward : goal.overflow_sub-onward
+overflow_sub-onward c = omega (arith, few (goal.at.overflow_sub-onward c).After-follow-held)
 
 pub returns : goal.returns
 returns c =
     let a = c.args in
-    let end = from_on (length a.onward.now - c.follow-held.result.waiting) a.onward.now in
-    with-start a.e a.gathering.now a.output.now a.before.now a.onward.now _ _ _ c.lead-front.ensures _ c.unfinished.ensures _ _ c.follow-held.ensures _ (laid_front _ c.lead-front.new.gathering _ _ (c.copy_from_slice.ensures.after ∙ end) (ap length (sym end)))
+    let n = c.follow-held.result.waiting in
+    let k = few (goal.at.returns c).After-follow-held in
+    with-start a.e a.gathering.now a.output.now a.before.now a.onward.now _ _ _ c.lead-front.ensures _ c.unfinished.ensures _ _ c.follow-held.ensures _
+    (c.copy.ensures ∙ copied-end n a.onward.now c.lead-front.new.gathering k (omega (arith, k, c.requires, c.lead-front.auto)))
