@@ -4,6 +4,7 @@ pub mod Stretches
 pub mod FormatLaws
 pub mod NumberLaws
 pub mod SignedLaws
+pub mod Complement
 pub mod PartLaws
 pub mod ByteFormatLaws
 pub mod LaidLaws

@@ -5,6 +5,8 @@ use mathlib.Core.Bool.{Bool, true, false}
 use mathlib.Core.List.{List}
 use Prim.Native.Nat.{ℕ, zero, suc, ◌<◌}
 use native.Mathlib.Omega.{arith}
+use lib.Dec.{lit<}
+use mir.Val.{bool_byte}
 use borrow.Author.Tests.{eqb-true, not-false}
 use Rattle.fields.proofs.Cases.{true≢false}
 use Rattle.functions.specs.Tags.{exactly, size_of, body_wrong}
@@ -18,6 +20,11 @@ unfolding body_wrong
 sized tag k n size right = eqb-true _ _ (not-false _ (rw size at right))
 
 -- ---- flags
+
+-- docs/PORT.md names it; no proof cites it
+pub byte_small : (flag : Bool) → bool_byte flag < 2
+byte_small true = lit< tt
+byte_small false = lit< tt
 
 pub set-bit : (flag : Bool) → is_set (bit flag) ≡ flag
 set-bit true = refl

@@ -2,14 +2,16 @@
 -- Assumes nothing.
 use mathlib.Core.Path.{◌≡◌, sym, ap, ◌∙◌}
 use mathlib.Core.Bool.{false}
-use mathlib.Core.List.{List, [], ◌∷◌, ◌++◌}
-use Prim.Native.Nat.{ℕ, ◌+◌, ◌^◌, ◌≤◌, ◌<◌}
+use mathlib.Core.List.{List, [], ◌∷◌, ◌++◌, append_assoc}
+use Prim.Native.Nat.{ℕ, suc, ◌+◌, ◌^◌, ◌≤◌, ◌<◌}
 use native.Mathlib.Nat.{add-zero}
+use native.Mathlib.Numerals.{add-one}
 use native.Mathlib.Omega.{arith}
-use lib.ListN.{length, length-append}
+use lib.ListN.{length, get_or, take, drop, set, length-append}
+use lib.Seq.{length-take-le, take-suc, set_at}
 use borrow.Author.Tests.{le-leb}
 use Rattle.fields.specs.Parts.{overlay, inside}
-use Rattle.fields.proofs.PartLaws.{length-overlay, overlay-none, overlay-next}
+use Rattle.fields.proofs.PartLaws.{length-overlay, overlay-is, overlay-none, overlay-next, take-front}
 use Rattle.text.specs.Digits.{digits}
 use Rattle.text.specs.Laid.{word, Filled, laid, appended, filled, Appends}
 use Rattle.text.specs.declared.Text.{Text}
@@ -69,3 +71,19 @@ word-length n end = length-append (digits n) (end ∷ [])
 -- a number below ten to the k, and what stands behind it
 pub word-few : (k n end : ℕ) → n < 10 ^ k → 0 < k → length (word n end) ≤ k + 1
 word-few k n end h p = omega (arith, word-length n end, digits-few k n h p)
+
+-- ---- docs/PORT.md names these two; no proof cites them
+
+-- a text laid at the front is read there
+pub front_read : (p l : List ℕ) (r : ℕ) (m : List ℕ) → record { at = r; lines = m } ≡ laid p 0 l → take r m ≡ p
+front_read p l r m e =
+    let z : r ≡ length p = omega (arith, laid-at p 0 l r m e) in
+    rw (z, laid-lines p 0 l r m e) (take-front p l)
+
+-- a store before p
+pub set_before : (at : ℕ) (p l : List ℕ) (x : ℕ) → at < length l → set (overlay (at + 1) p l) at x ≡ overlay at (x ∷ p) l
+set_before at p l x h =
+    let e : at + 1 + length p ≡ at + suc (length p) = omega arith in
+    rw (overlay-is (at + 1) p l, add-one at, take-suc l at 0 h, append_assoc (take at l) (get_or l at 0 ∷ []) (p ++ drop (suc at + length p) l))
+    (set_at (take at l) (get_or l at 0) (p ++ drop (suc at + length p) l) x at (length-take-le at l (omega arith))
+    ∙ rw (← add-one at, e) (sym (overlay-is at (x ∷ p) l)))
