@@ -2,6 +2,7 @@
 pub mod Flow
 pub mod LoadLaws
 pub mod ByteLaws
+pub mod OneLoad
 pub mod BatchLaws
 pub mod BuildLaws
 pub mod ShapeLaws

@@ -2,6 +2,7 @@
 pub mod RefusalLaws
 pub mod JudgeLaws
 pub mod EnterLaws
+pub mod WaitingLaws
 pub mod JoinLaws
 pub mod FollowLaws
 pub mod StartLaws

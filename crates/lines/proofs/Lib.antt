@@ -3,6 +3,7 @@ pub mod LineLaws
 pub mod PieceLaws
 pub mod StepLaws
 pub mod FeedLaws
+pub mod KeptLaws
 pub mod CallSound
 pub mod Told
 pub mod RunLaws
