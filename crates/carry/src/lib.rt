@@ -150,13 +150,13 @@ fn header_number(pid: u16, begins: u8, control: u8, count: u8) -> u64
     ensures { result ≡ pack header (0x47 ∷ 0 ∷ begins ∷ 0 ∷ pid ∷ 0 ∷ control ∷ count ∷ []) }
 {
     0x4700_0000
-        + (begins as u64 * 0x40_0000
-            + (pid as u64 * 0x100 + (control as u64 * 0x10 + count as u64)))
+        + (u64::from(begins) * 0x40_0000
+            + (u64::from(pid) * 0x100 + (u64::from(control) * 0x10 + u64::from(count))))
 }
 
 // Lays the bytes of an adaptation field that are not 0xFF.
-fn put_field(t: &mut [u8], room: usize)
-    requires { (length t.old ≡ 188) × (room ≤ 183) }
+fn put_field(t: &mut [u8; 188], room: usize)
+    requires { room ≤ 183 }
     ensures { t.new ≡ overlay 4 (field_head room) t.old }
 {
     if room == 0 {
@@ -170,8 +170,8 @@ fn put_field(t: &mut [u8], room: usize)
 }
 
 // Makes t a packet of 0xFF with its header and its adaptation field.
-fn put_head(t: &mut [u8], pid: u16, begins: u8, count: u8, room: usize)
-    requires { (length t.old ≡ 188) × (room ≤ 183) }
+fn put_head(t: &mut [u8; 188], pid: u16, begins: u8, count: u8, room: usize)
+    requires { room ≤ 183 }
     ensures { t.new ≡ overlay 0 (head_bytes pid begins count room) blank }
 {
     t.fill(0xff);
@@ -184,11 +184,16 @@ fn put_head(t: &mut [u8], pid: u16, begins: u8, count: u8, room: usize)
     put_field(t, room);
 }
 
-// Makes t the transport packet of a piece: behind its head the pointer, if there is one, and the bytes up to the end.
-fn put_piece(t: &mut [u8], pid: u16, count: u8, piece: Piece)
-    requires { (length t.old ≡ 188) × Held (load_in piece) }
-    ensures { t.new ≡ transport_of pid count (load_in piece.entry) }
+// Makes a part of the output the transport packet of a piece: behind its head the pointer, if there is one, and the bytes
+// up to the end.
+fn put_piece(part: &mut [u8], pid: u16, count: u8, piece: Piece)
+    requires { (length part.old ≡ 188) × Held (load_in piece) }
+    ensures { part.new ≡ transport_of pid count (load_in piece.entry) }
 {
+    // Made an array here and not in the loop of put_pieces: of one lent there a proof doesn't know what it ends as.
+    let Some(t) = part.as_mut_array() else {
+        unreachable!()
+    };
     let n = piece.bytes.len();
     match piece.pointer {
         None => put_head(t, pid, 0, count, 184 - n),

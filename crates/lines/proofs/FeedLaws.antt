@@ -6,17 +6,17 @@ use mathlib.Core.List.{List, ◌∷◌, ◌++◌, append_assoc}
 use Prim.Native.Nat.{ℕ, ◌+◌, ◌-◌, ◌≤◌, ◌<◌}
 use native.Mathlib.Nat.{zero-add}
 use native.Mathlib.Omega.{arith}
-use lib.Dec.{ltb}
+use lib.Dec.{leb, ltb}
 use lib.ListN.{length, take, drop, length-append, length-take, length-drop}
 use lib.Seq.{paste, length-take-le, take_at, drop_at}
-use borrow.Author.Tests.{lt-ltb, le-ltb, ltb-false}
+use borrow.Author.Tests.{lt-ltb, le-ltb, ltb-false, le-leb, lt-leb}
 use Rattle.std.specs.List.{copy_within}
 use Rattle.fields.specs.Parts.{part, overlay}
 use Rattle.fields.proofs.Cases.{cases, true≢false}
 use Rattle.fields.proofs.PartLaws.{part_none, overlay-is, overlay-none}
 use Rattle.text.specs.Laid.{Filled}
 use Rattle.lines.specs.Pieces.{pieces, kept_of}
-use Rattle.lines.specs.Listing.{roomy, Stepped, step_of, fed_of}
+use Rattle.lines.specs.Listing.{roomy, Stepped, step_of, fed_told, fed_of}
 use Rattle.lines.specs.declared.Listing.{Listing}
 use Rattle.lines.proofs.PieceLaws.{pieces_none, pieces-cons}
 use Rattle.lines.proofs.StepLaws.{step-full, step-goes}
@@ -30,13 +30,13 @@ as_it_was l t g o lines filled s e h =
     (λ y. absurd (true≢false (sym h ∙ ap (λ (z : Stepped). z.answer.full) (e ∙ step-goes l t g o lines filled y))))
     (λ y. e ∙ step-full l t g o lines filled y)
 
--- ---- the loop, with d left
+-- ---- the loop, with d left of `have` bytes
 
-module _ (d : List ℕ) (l : Listing) (g o lines : List ℕ) (taken filled : ℕ) where
+module _ (have : ℕ) (d : List ℕ) (l : Listing) (g o lines : List ℕ) (taken filled : ℕ) (k : taken + length d ≡ have) where
   pub feed-ends : length d < 188
-      → record { answer = record { full = false; listing = l; taken = taken; filled = filled }; gathering = g; output = o; lines = lines } ≡ fed_of (pieces d) l g o lines taken filled
+      → record { answer = fed_told l have taken filled; gathering = g; output = o; lines = lines } ≡ fed_of (pieces d) l g o lines taken filled
   unfolding fed_of
-  feed-ends h = rw (pieces_none d h)
+  feed-ends h = rw (lt-leb 188 (have - taken) (omega arith), pieces_none d h) refl
 
   -- a piece, and what is behind it
   module _ (p on : List ℕ) (e : d ≡ p ++ on) (n : length p ≡ 188) (s : Stepped) (q : s ≡ step_of l p g o lines filled) where
@@ -44,13 +44,18 @@ module _ (d : List ℕ) (l : Listing) (g o lines : List ℕ) (taken filled : ℕ
     cut =
         rw e (pieces-cons (p ++ on) (rw (length-append p on) (omega arith)) ∙ rw (take_at p on 188 n, drop_at p on 188 n))
 
+    -- it is left
+    left : leb 188 (have - taken) ≡ true
+    left = le-leb 188 (have - taken) (omega (arith, ap length e, length-append p on))
+
+    -- where it stops, all is as it was
     pub feed-stops : s.answer.full ≡ true
-        → record { answer = record { full = true; listing = s.answer.listing; taken = taken; filled = filled }; gathering = s.gathering; output = s.output; lines = s.lines } ≡ fed_of (pieces d) l g o lines taken filled
+        → record { answer = fed_told s.answer.listing have taken s.answer.filled; gathering = s.gathering; output = s.output; lines = s.lines } ≡ fed_of (pieces d) l g o lines taken filled
     unfolding fed_of
     feed-stops f =
-        ap (λ (z : Stepped). record { answer = record { full = true; listing = z.answer.listing; taken = taken; filled = filled }; gathering = z.gathering; output = z.output; lines = z.lines })
+        ap (λ (z : Stepped). record { answer = fed_told z.answer.listing have taken z.answer.filled; gathering = z.gathering; output = z.output; lines = z.lines })
         (as_it_was l p g o lines filled s q f)
-        ∙ rw (cut, ← q, f)
+        ∙ rw (left, cut, ← q, f)
 
     pub feed-goes : s.answer.full ≡ false
         → fed_of (pieces on) s.answer.listing s.gathering s.output s.lines (taken + 188) s.answer.filled ≡ fed_of (pieces d) l g o lines taken filled

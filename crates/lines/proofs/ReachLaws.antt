@@ -6,7 +6,7 @@ use mathlib.Core.List.{List, [], ◌∷◌, ◌++◌, append_assoc, append-nil}
 use Prim.Native.Nat.{ℕ, ◌+◌, ◌-◌, ◌*◌, ◌≤◌, ◌<◌}
 use native.Mathlib.Nat.{zero-add}
 use native.Mathlib.Omega.{arith}
-use lib.ListN.{length, take, drop, replicate, length-drop, length-replicate}
+use lib.ListN.{length, take, drop, replicate, length-replicate}
 use lib.Seq.{length-take-le, take-add}
 use borrow.Author.Tests.{le-ltb}
 use Rattle.fields.specs.Numbers.{Bytes}
@@ -20,8 +20,7 @@ use Rattle.lines.specs.Pieces.{pieces, leftover, kept_of}
 use Rattle.lines.specs.Listing.{start_listing, Stepped, step_of, Feeding, fed_of}
 use Rattle.lines.specs.Theorems.{listing_of, listing_of_bytes, Run, feed_on, wrote_on, brought, ended, Ample, Ran, begins, reads, feeds, opened, Reached, Ends}
 use Rattle.lines.specs.declared.Listing.{Listing}
-use Rattle.lines.proofs.PieceLaws.{pieces_none, leftover-none, pieces-within, leftover-is, leftover-short, pieces-append, leftover-append, each-piece}
-use Rattle.lines.proofs.FeedLaws.{kept_at}
+use Rattle.lines.proofs.PieceLaws.{pieces_none, leftover-none, pieces-within, pieces-append, leftover-append, each-piece}
 use Rattle.lines.proofs.CallSound.{Sound}
 use Rattle.lines.proofs.Told.{Told, told, told-append, Went, fed-went}
 use Rattle.lines.proofs.RunLaws.{After, pieces-next, leftover-next, room_next, bytes-front, bytes_back, start-sound, after-prints, zeros-bytes}
@@ -63,7 +62,7 @@ kept-front at have b n m h w e =
     ∙ ap (λ (j : ℕ). part j (have - at) b) (sym (zero-add at))
     ∙ sym (drop-part 0 have at b h)
 
--- no more is taken than there is, and all whole pieces where it is not full
+-- no more is taken than there is
 taken-most : (ps : List (List ℕ)) (l : Listing) (g o lines : List ℕ) (taken filled : ℕ) → (fed_of ps l g o lines taken filled).answer.taken ≤ taken + 188 * length ps
 unfolding fed_of
 taken-most [] l g o lines taken filled = omega arith
@@ -73,26 +72,11 @@ taken-most (p ∷ ps) l g o lines taken filled =
     (λ h. rw h (omega arith))
     (λ h. rw h (omega (arith, taken-most ps s.answer.listing s.gathering s.output s.lines (taken + 188) s.answer.filled)))
 
-taken-all : (ps : List (List ℕ)) (l : Listing) (g o lines : List ℕ) (taken filled : ℕ) → (fed_of ps l g o lines taken filled).answer.full ≡ false → (fed_of ps l g o lines taken filled).answer.taken ≡ taken + 188 * length ps
-unfolding fed_of
-taken-all [] l g o lines taken filled = λ h. omega arith
-taken-all (p ∷ ps) l g o lines taken filled =
-    let s : Stepped = step_of l p g o lines filled in
-    cases s.answer.full
-    (λ h. rw h (λ f. absurd (true≢false f)))
-    (λ h. rw h (λ f. omega (arith, taken-all ps s.answer.listing s.gathering s.output s.lines (taken + 188) s.answer.filled f)))
-
 module _ (d : List ℕ) (l : Listing) (g o lines : List ℕ) (f : Feeding) (e : f ≡ fed_of (pieces d) l g o lines 0 0) where
   pub fed-within : f.answer.taken ≤ length d
   fed-within =
       let n : 188 * length (pieces d) ≤ length d = pieces-within d in
       rw e (omega (arith, taken-most (pieces d) l g o lines 0 0))
-
-  pub fed-short : f.answer.full ≡ false → length (drop f.answer.taken d) < 188
-  fed-short h =
-      let t : f.answer.taken ≡ 188 * length (pieces d) =
-      ap (λ (x : Feeding). x.answer.taken) e ∙ taken-all (pieces d) l g o lines 0 0 (sym (ap (λ (x : Feeding). x.answer.full) e) ∙ h) ∙ zero-add (188 * length (pieces d)) in
-      rw (t, ← leftover-is d) (leftover-short d)
 
 -- as the program's loop has it: the first `have` bytes of a block wait
 module _ (from : Run) (l : Listing) (g o lines b : List ℕ) (have : ℕ) (k : Reached from l g o lines (take have b)) where
@@ -111,10 +95,6 @@ module _ (from : Run) (l : Listing) (g o lines b : List ℕ) (have : ℕ) (k : R
     reach-kept =
         subst (λ (x : List ℕ). Reached from f.answer.listing f.gathering f.output f.lines x) (sym (kept-front f.answer.taken have b n m within w q))
         (reach-fed from l g o lines (take have b) k f e)
-
-    pub short-kept : f.answer.full ≡ false → n < 188
-    short-kept h =
-        omega (arith, kept_at f.answer.taken have b n m w q, fed-short (take have b) l g o lines f e h, length-drop f.answer.taken (take have b), length-take-le have b w)
 
 -- ---- what is printed after any run
 

@@ -1,11 +1,10 @@
 -- One step of a listing: a transport packet goes to the reader, and what it hands out is counted and gets its lines.
-use Rattle.std.specs.Prelude.{ℕ, ◌+◌, ◌-◌, ◌*◌, ◌^◌, min, Bool, true, false, cond, List, [], ◌∷◌, leb, length, Option, None, Some}
+use Rattle.std.specs.Prelude.{ℕ, ◌+◌, ◌-◌, ◌*◌, ◌^◌, min, Bool, true, false, not, cond, List, [], ◌∷◌, leb, length}
 use Rattle.fields.specs.Parts.{overlay}
 use Rattle.gather.specs.State.{fresh}
 use Rattle.gather.specs.Gather.{Gathered, Outcome, gather_of}
 use Rattle.gather.specs.Calls.{handed_by}
 use Rattle.lines.specs.Lines.{lines_of}
-use Rattle.lines.specs.declared.Fed as given
 use Rattle.lines.specs.declared.Listing.{Listing}
 
 -- the PID that is listed
@@ -46,10 +45,9 @@ pub record Step : Type 0 where
   pub listing : Listing
   pub filled : ℕ
 
--- the answer that a result of `step` stands for, where l is the listing after it, and so much was filled before it
-abbrev pub step_told : Listing → ℕ → Option ℕ → Step
-step_told l filled (Some n) = record { full = false; listing = l; filled = n }
-step_told l filled None = record { full = true; listing = l; filled = filled }
+-- the answer that `step` gave, where l is the listing after it, and so much is then filled
+abbrev pub step_told : Listing → ℕ → Bool → Step
+step_told l filled done = record { full = not done; listing = l; filled = filled }
 
 -- the answer, and what the lent buffers hold after it
 pub record Stepped : Type 0 where
@@ -85,9 +83,10 @@ pub record Fed : Type 0 where
   pub taken : ℕ
   pub filled : ℕ
 
--- the answer that a result of `feed` stands for, where l is the listing after it
-abbrev pub fed_told : Listing → given.Fed → Fed
-fed_told l f = record { full = f.full; listing = l; taken = f.taken; filled = f.filled }
+-- the answer where so many bytes of a block are taken, l is the listing after it, and so much is then filled: it is full where a
+-- whole piece is left
+abbrev pub fed_told : Listing → ℕ → ℕ → ℕ → Fed
+fed_told l have taken filled = record { full = leb 188 (have - taken); listing = l; taken = taken; filled = filled }
 
 pub record Feeding : Type 0 where
   pub answer : Fed

@@ -31,15 +31,6 @@ pub struct Listing {
     pub gaps: u64,
 }
 
-// What feeding a block gives: how many of its bytes are taken, and how much of the lines is filled. Where it is full it stopped
-// before a piece whose lines may have too little room.
-#[derive(Clone, Copy, Debug, PartialEq, Eq)]
-pub struct Fed {
-    pub full: bool,
-    pub taken: usize,
-    pub filled: usize,
-}
-
 // Appends a number, which has at most 20 digits, and what stands behind it.
 fn lay_word(line: &mut Line, n: u64, end: char)
     requires { (array_string_len line.old + 21 ≤ 105) × (end < 128) }
@@ -168,21 +159,20 @@ impl Listing {
         self.gaps = self.gaps.saturating_add(u64::from(call.marks.loss));
     }
 
-    // Takes one transport packet, appends the lines of what it finishes, and gives how much of the lines is then filled. gathering
-    // and output are the reader's; lines holds the text so far in its first filled bytes. Where the lines may have too little room
-    // nothing is done.
+    // Takes one transport packet, and appends the lines of what it finishes. gathering and output are the reader's. Where the
+    // text may have too little room nothing is done, and it says so by false.
     pub fn step(
         &mut self,
         transport: &[u8],
         gathering: &mut [u8],
         output: &mut [u8],
-        lines: &mut [u8],
-        filled: usize,
-    ) -> Option<usize>
-        ensures { record { answer = step_told self.new filled result; gathering = gathering.new; output = output.new; lines = lines.new } ≡ step_of self.old transport.now gathering.old output.old lines.old filled }
+        text: &mut Text,
+    ) -> bool
+        ensures same_reference { text.new.lines.ghost_name ≡ text.old.lines.ghost_name }
+        ensures stepped { record { answer = step_told self.new text.new.at result; gathering = gathering.new; output = output.new; lines = text.new.lines.now } ≡ step_of self.old transport.now gathering.old output.old text.old.lines.now text.old.at }
     {
-        if !has_room(filled, output.len(), lines.len()) {
-            return None;
+        if !has_room(text.at, output.len(), text.lines.len()) {
+            return false;
         }
         // a refused packet gives nothing
         let call = self
@@ -190,39 +180,30 @@ impl Listing {
             .gather(transport, gathering, output)
             .unwrap_or_default();
         self.count(call);
-        let mut text = Text { lines, at: filled };
-        lay_lines(&mut text, &output[..call.bytes]);
-        Some(text.at)
+        lay_lines(text, &output[..call.bytes]);
+        true
     }
 
-    // Takes the whole pieces of a block, and lays their lines from the front on.
+    // Takes the whole pieces of a block, appends their lines, and gives how many bytes are taken. It is full where it stopped
+    // before a piece whose lines may have too little room: then a whole piece is left of the block, and else none.
     pub fn feed(
         &mut self,
         block: &[u8],
         gathering: &mut [u8],
         output: &mut [u8],
-        lines: &mut [u8],
-    ) -> Fed
-        ensures { record { answer = fed_told self.new result; gathering = gathering.new; output = output.new; lines = lines.new } ≡ fed_of (pieces block.now) self.old gathering.old output.old lines.old 0 0 }
+        text: &mut Text,
+    ) -> usize
+        ensures same_reference { text.new.lines.ghost_name ≡ text.old.lines.ghost_name }
+        ensures fed { record { answer = fed_told self.new (length block.now) result text.new.at; gathering = gathering.new; output = output.new; lines = text.new.lines.now } ≡ fed_of (pieces block.now) self.old gathering.old output.old text.old.lines.now 0 text.old.at }
     {
         let mut taken = 0;
-        let mut filled = 0;
         for piece in block.chunks_exact(188) {
-            let Some(next) = self.step(piece, gathering, output, lines, filled) else {
-                return Fed {
-                    full: true, // before this piece
-                    taken, // it is fed again
-                    filled,
-                };
-            };
-            filled = next;
+            if !self.step(piece, gathering, output, text) {
+                return taken; // before this piece, which is fed again
+            }
             taken += 188;
         }
-        Fed {
-            full: false, // no whole piece is left
-            taken,
-            filled,
-        }
+        taken // no whole piece is left
     }
 
     // Appends the line of the totals.

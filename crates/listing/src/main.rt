@@ -3,7 +3,7 @@
 // that the theorem on whole listings (lines, specs/Theorems) has.
 #![tactic(auto)]
 
-ghost use Rattle.std.specs.Prelude.{◌≡◌, ◌≤◌, false, is_ok, length, take, IfOk, MatchOption};
+ghost use Rattle.std.specs.Prelude.{◌≡◌, ◌≤◌, ◌<◌, is_ok, length, take, IfOk, MatchOption};
 ghost use Rattle.lines.specs.Listing.{start_listing};
 ghost use Rattle.lines.specs.Theorems.{opened, Ends};
 
@@ -32,30 +32,22 @@ impl Fault {
     }
 }
 
-// Writes out the filled part of the lines.
-fn flush(rt: &impl Print, lines: &[u8], filled: usize) -> Result<(), Fault> {
-    if lines.len() < filled {
-        return Err(Fault::Silent);
-    }
-    match rt.write_all(&lines[..filled]) {
+// Writes out a text.
+fn write_out(rt: &impl Print, text: &[u8]) -> Result<(), Fault> {
+    match rt.write_all(text) {
         Ok(()) => Ok(()),
         Err(e) if e.kind() == ErrorKind::BrokenPipe => Err(Fault::Silent),
         Err(_) => Err(Fault::Output),
     }
 }
 
-// How many bytes stand in the block with more of the input behind its first have; nothing at the input's end. Where the pieces
-// of the block are not all fed yet nothing is read.
-fn more<R: Read>(
-    input: &mut R,
-    block: &mut [u8],
-    have: usize,
-    full: bool,
-) -> Result<Option<usize>, Fault>
+// How many bytes stand in the block with more of the input behind its first have; nothing at the input's end. Where a whole
+// piece waits to be fed nothing is read.
+fn more<R: Read>(input: &mut R, block: &mut [u8], have: usize) -> Result<Option<usize>, Fault>
     requires { have ≤ length block.old }
-    ensures { IfOk result (λ came. MatchOption came (full ≡ false) (λ n. (have ≤ n) × (n ≤ length block.new) × (take have block.new ≡ take have block.old))) }
+    ensures { IfOk result (λ came. MatchOption came (have < 188) (λ n. (have ≤ n) × (n ≤ length block.new) × (take have block.new ≡ take have block.old))) }
 {
-    if full {
+    if 188 <= have {
         return Ok(Some(have));
     }
     match input.read(&mut block[have..]) {
@@ -76,21 +68,20 @@ fn list_all<R: Read>(
     block: &mut [u8],
     gathering: &mut [u8],
     output: &mut [u8],
-    lines: &mut [u8],
+    text: &mut Text,
 ) -> Result<(), Fault>
     requires { listing.old ≡ start_listing }
-    ensures { Ends (opened gathering.old output.old lines.old) listing.new gathering.new output.new lines.new (is_ok result) }
+    ensures { Ends (opened gathering.old output.old text.old.lines.now) listing.new gathering.new output.new text.new.lines.now (is_ok result) }
 {
     let mut have: usize = 0;
-    let mut full = false;
     for _ in 0..u64::MAX {
-        let Some(came) = more(input, block, have, full)? else {
+        let Some(came) = more(input, block, have)? else {
             return Ok(());
         };
-        let fed = listing.feed(&block[..came], gathering, output, lines);
-        full = fed.full;
-        have = lines::keep_rest(block, fed.taken, came);
-        flush(rt, lines, fed.filled)?;
+        text.at = 0; // what stands there is written out
+        let taken = listing.feed(&block[..came], gathering, output, text);
+        have = lines::keep_rest(block, taken, came);
+        write_out(rt, text.so_far())?;
     }
     Err(Fault::Silent)
 }
@@ -104,8 +95,7 @@ fn list(rt: &HostRuntime) -> Result<(), Fault> {
     let mut lines = [0u8; 65536];
     let mut text = Text::new(&mut lines);
     lines::head_line(&mut text);
-    let head = text.at;
-    flush(rt, &lines, head)?;
+    write_out(rt, text.so_far())?;
     let mut listing = Listing::start();
     list_all(
         rt,
@@ -114,12 +104,11 @@ fn list(rt: &HostRuntime) -> Result<(), Fault> {
         &mut block,
         &mut gathering,
         &mut output,
-        &mut lines,
+        &mut text,
     )?;
-    let mut text = Text::new(&mut lines);
+    text.at = 0;
     listing.last_line(&mut text);
-    let last = text.at;
-    flush(rt, &lines, last)
+    write_out(rt, text.so_far())
 }
 
 // The exit status says whether the listing is whole.

@@ -2,7 +2,7 @@
 // nothing of it is laid.
 #![tactic(auto)]
 
-ghost use Rattle.std.specs.Prelude.{◌≡◌};
+ghost use Rattle.std.specs.Prelude.{◌≡◌, take};
 ghost use Rattle.text.specs.Digits.{digits, signed};
 ghost use Rattle.text.specs.Laid.{word, Appends};
 
@@ -23,6 +23,13 @@ impl Text<'_> {
         ensures at { result.at ≡ 0 }
     {
         Text { lines, at: 0 }
+    }
+
+    // The text so far.
+    pub fn so_far(&self) -> &[u8]
+        ensures { result.now ≡ take self.now.at self.now.lines.now }
+    {
+        &self.lines[..self.at.min(self.lines.len())]
     }
 
     // Appends a text.

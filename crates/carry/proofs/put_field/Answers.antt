@@ -1,5 +1,5 @@
 -- `carry::put_field` meets its contract: a byte, two, or none.
-use Rattle.std.proofs.Common.{◌≡◌, ℕ, ◌-◌, ◌≤◌, set, sym, ap, ◌∙◌, arith}
+use Rattle.std.proofs.Common.{rules, ◌≡◌, ℕ, ◌-◌, ◌≤◌, length, set, sym, ap, ◌∙◌, arith}
 use Rattle.fields.specs.Parts.{overlay}
 use Rattle.carry.proofs.BuildLaws.{field-none, field-one, field-more}
 use Rattle.carry.specs.Building.{field_head}
@@ -16,11 +16,13 @@ returns-then-room-eq0 c =
 pub returns-then-room-eq1 : goal.returns-then-room-eq1
 returns-then-room-eq1 c =
     let a = c.args in
+    let long : length a.t.now ≡ 188 = search rules in
     ap (λ (k : ℕ). set a.t.now 4 (k - 1)) c.if-room-eq1.true
-    ∙ field-one a.t.now c.requires.0
+    ∙ field-one a.t.now long
     ∙ ap (λ (k : ℕ). overlay 4 (field_head k) a.t.now) (sym c.if-room-eq1.true)
 
 pub returns : goal.returns
 returns c =
     let a = c.args in
-    field-more a.room a.t.now c.requires.0 (two a.room c.if-room-eq0.false c.if-room-eq1.false)
+    let long : length a.t.now ≡ 188 = search rules in
+    field-more a.room a.t.now long (two a.room c.if-room-eq0.false c.if-room-eq1.false)

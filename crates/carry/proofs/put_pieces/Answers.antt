@@ -83,7 +83,7 @@ loop-piece-preserved c =
     let at : ℕ = 188 * l.packets in
     let e = c.in-Some.ensures.steps in
     let s = first-sound _ _ _ _ e in
-    let t = c.put_piece.new.t in
+    let t = c.put_piece.new.part in
     let k : length t ≡ 188 = ap length c.put_piece.ensures ∙ transport-length c.args.pid l.count (load_in c.in-Some.piece) s in
     step l.invariant _ _ e s _ (written-part at 188 t l.out k ∙ ap (λ (t : List ℕ). overlay at t l.out) c.put_piece.ensures)
 

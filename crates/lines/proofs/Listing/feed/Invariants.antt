@@ -8,5 +8,6 @@ use Rattle.lines.proofs.Listing.feed.Given as goal
 
 abbrev pub invariant-loop-piece : goal.invariant-loop-piece
 invariant-loop-piece l =
-    (l.piece-iterator.size ≡ 188) × (l.taken + length l.piece-iterator.rest.now ≡ length l.block) × (length l.gathering ≡ length l.initial.gathering) × (length l.output ≡ length l.initial.output) × (length l.lines ≡ length l.initial.lines)
-    × (fed_of (pieces l.piece-iterator.rest.now) l.self l.gathering l.output l.lines l.taken l.filled ≡ fed_of (pieces l.block) l.initial.self l.initial.gathering l.initial.output l.initial.lines 0 0)
+    let before = l.initial.text in
+    (l.piece-iterator.size ≡ 188) × (l.taken + length l.piece-iterator.rest.now ≡ length l.block) × (l.text.lines.ghost_name ≡ before.lines.ghost_name)
+    × (fed_of (pieces l.piece-iterator.rest.now) l.self l.gathering l.output l.text.lines.now l.taken l.text.at ≡ fed_of (pieces l.block) l.initial.self l.initial.gathering l.initial.output before.lines.now 0 before.at)

@@ -1,5 +1,4 @@
 -- `lines::Listing::step` meets its contract: with room, the reader's call, the lines of what it wrote, and the totals.
-use borrow.Author.Rules.{rules}
 use borrow.Author.Tests.{leb-true}
 use lib.ListN.{length}
 use lib.Seq.{length-take-le}
@@ -16,10 +15,10 @@ use Rattle.lines.proofs.Listing.step.Goals as goal
 use Rattle.lines.proofs.Listing.step.Goals.{After-unwrap_or_default-call, Else-not-has_room}
 
 -- there is room
-spacious : (k : Else-not-has_room) → roomy k.args.filled (length k.args.output.now) (length k.args.lines.now) ≡ true
+spacious : (k : Else-not-has_room) → roomy k.args.text.now.at (length k.args.output.now) (length k.args.text.now.lines.now) ≡ true
 spacious k = sym k.has_room.ensures ∙ k.if-not-has_room.false
 
-room : (k : Else-not-has_room) → k.args.filled + 2 * length k.args.output.now ≤ length k.args.lines.now
+room : (k : Else-not-has_room) → k.args.text.now.at + 2 * length k.args.output.now ≤ length k.args.text.now.lines.now
 unfolding roomy
 room k = leb-true _ _ (spacious k)
 
@@ -35,10 +34,10 @@ inside m =
     rw (sym (given m).bytes ∙ ap (λ (x : Outcome). x.answer.bytes) m.gather.ensures, ap (λ (x : Outcome). x.output) m.gather.ensures)
     (call-within a.self.now.reader a.transport.now a.gathering.now a.output.now)
 
-pub returns-then-not-has_room : goal.returns-then-not-has_room
-returns-then-not-has_room c =
+pub returns-then-not-has_room-clause-stepped : goal.returns-then-not-has_room-clause-stepped
+returns-then-not-has_room-clause-stepped c =
     let a = c.args in
-    sym (step-full a.self.now a.transport.now a.gathering.now a.output.now a.lines.now a.filled (sym c.has_room.ensures ∙ c.if-not-has_room.true))
+    sym (step-full a.self.now a.transport.now a.gathering.now a.output.now a.text.now.lines.now a.text.now.at (sym c.has_room.ensures ∙ c.if-not-has_room.true))
 
 pub slice_bounds-lay_lines-end : goal.slice_bounds-lay_lines-end
 slice_bounds-lay_lines-end c = inside (goal.at.slice_bounds-lay_lines-end c).After-unwrap_or_default-call
@@ -52,9 +51,9 @@ lay_lines-requires c =
     let m = (goal.at.lay_lines-requires c).After-unwrap_or_default-call in
     omega (arith, room (goal.at.lay_lines-requires c).Else-not-has_room, inside m, c.gather.auto, length-take-le c.unwrap_or_default-call.result.bytes c.gather.new.output (inside m))
 
-pub returns : goal.returns
-returns c =
+pub returns-clause-stepped : goal.returns-clause-stepped
+returns-clause-stepped c =
     let a = c.args in
-    let m = (goal.at.returns c).After-unwrap_or_default-call in
-    let e = step-given a.self.now a.transport.now a.gathering.now a.output.now a.lines.now a.filled _ _ _ c.gather.ensures _ _ (given m) _ _ _ (spacious (goal.at.returns c).Else-not-has_room) c.lay_lines.ensures.1 c.count.ensures in
-    search rules
+    let t = a.text.now in
+    let m = (goal.at.returns-clause-stepped c).After-unwrap_or_default-call in
+    step-given a.self.now a.transport.now a.gathering.now a.output.now t.lines.now t.at _ _ _ c.gather.ensures _ _ (given m) _ _ _ (spacious (goal.at.returns-clause-stepped c).Else-not-has_room) c.lay_lines.ensures.1 c.count.ensures
