@@ -39,7 +39,7 @@ const UNITS: [u32; 6] = [131, 40, 48, 56, 64, 80];
 pub fn units(bw: u8) -> u32
     ensures { result ≡ units_of bw }
 {
-    UNITS.get(bw as usize).copied().unwrap_or(0)
+    UNITS.get(usize::from(bw)).copied().unwrap_or(0)
 }
 
 // Whether seconds, subseconds and utco are all ones.
@@ -73,8 +73,7 @@ fn second_reached(stamp: Stamp) -> bool
 }
 
 // The fields of a payload. Its 88 bits are two numbers: the last 40 hold subseconds and utco.
-fn stamp_of(payload: &[u8]) -> Stamp
-    requires { length payload.now ≡ 11 }
+fn stamp_of(payload: &[u8; 11]) -> Stamp
     ensures { result ≡ stamp_of payload.now }
 {
     let front = fields::number_at(payload, 0, 6);
@@ -92,41 +91,32 @@ fn stamp_of(payload: &[u8]) -> Stamp
 }
 
 // Whether one of the four reserved bits is set.
-fn reserved_set(payload: &[u8]) -> bool
-    requires { length payload.now ≡ 11 }
+fn reserved_set(payload: &[u8; 11]) -> bool
     ensures { result ≡ reserved_set payload.now }
 {
     let front = fields::number_at(payload, 0, 6);
     front / 0x1000_0000_0000 % 16 != 0
 }
 
-// Refuses what is no timestamp payload.
-#[tactic(auto, unfolding(crate::specs::Read::read_checks))]
-fn check_read(payload: &[u8]) -> Result<(), Refusal>
-    ensures { code result ≡ first (read_checks payload.now) }
+// Reads a timestamp payload.
+#[tactic(auto, unfolding(crate::specs::Read::read_checks, crate::specs::Read::read_of, refusals::specs::Answers::answer))]
+pub fn read(payload: &[u8]) -> Result<Stamp, Refusal>
+    ensures { stamp_told result ≡ read_of payload.now }
 {
-    if payload.len() != 11 {
+    let Some(whole) = payload.as_array::<11>() else {
         return Err(Refusal::PayloadSizeWrong);
-    }
-    if reserved_set(payload) {
+    };
+    if reserved_set(whole) {
         return Err(Refusal::ReservedBitSet);
     }
-    let stamp = stamp_of(payload);
+    let stamp = stamp_of(whole);
     if 5 < stamp.bw {
         return Err(Refusal::BandwidthCodeOver5);
     }
     if second_reached(stamp) {
         return Err(Refusal::SubsecondsOverASecond);
     }
-    Ok(())
-}
-
-// Reads a timestamp payload.
-pub fn read(payload: &[u8]) -> Result<Stamp, Refusal>
-    ensures { stamp_told result ≡ read_of payload.now }
-{
-    check_read(payload)?;
-    Ok(stamp_of(payload))
+    Ok(stamp)
 }
 
 // Whether seconds, subseconds or utco is too wide for its bits. A bandwidth code up to 5 is not.
@@ -163,8 +153,8 @@ pub fn write(stamp: Stamp, out: &mut [u8]) -> Result<u32, Refusal>
     ensures { record { answer = bytes_of result; out = out.new } ≡ write_of stamp out.old }
 {
     check_write(stamp, out.len())?;
-    let front = stamp.bw as u64 * 0x100_0000_0000 + stamp.seconds;
-    let back = stamp.subseconds.0 as u64 * 0x2000 + stamp.utco as u64;
+    let front = u64::from(stamp.bw) * 0x100_0000_0000 + stamp.seconds;
+    let back = u64::from(stamp.subseconds.0) * 0x2000 + u64::from(stamp.utco);
     fields::store_at(out, 0, 6, front);
     fields::store_at(out, 6, 5, back);
     Ok(11)

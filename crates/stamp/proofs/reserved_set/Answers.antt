@@ -11,4 +11,4 @@ pub returns : goal.returns
 returns c =
     ap (λ (x : ℕ). not (eqb x 0))
     (ap (λ (x : ℕ). x / 2 ^ 44 % 16) c.number_at-front.ensures
-    ∙ sym (reserved-half c.args.payload.now (search rules) c.requires))
+    ∙ sym (reserved-half c.args.payload.now c.fits-payload (search rules)))

@@ -7,4 +7,4 @@ use Rattle.stamp.proofs.stamp_of.Goals as goal
 pub returns : goal.returns
 returns c =
     ap₂ from_halves c.number_at-front.ensures c.number_at-back.ensures
-    ∙ sym (stamp-halves c.args.payload.now (search rules) c.requires)
+    ∙ sym (stamp-halves c.args.payload.now c.fits-payload (search rules))

@@ -1,6 +1,6 @@
 -- `stamp::write` meets its contract: the two halves, laid back to back, are the payload, and nothing else is touched.
 use lib.ListN.{length}
-use mathlib.Core.Path.{◌≡◌, sym, ap, ◌∙◌}
+use mathlib.Core.Path.{◌≡◌, refl, sym, ap, ◌∙◌}
 use mathlib.Core.List.{List}
 use Prim.Native.Nat.{ℕ, ◌≤◌}
 use native.Mathlib.Omega.{arith}
@@ -53,4 +53,6 @@ returns c =
     let a = c.args in
     sym (write-accepted a.stamp a.out.now (passed (goal.at.returns c).In_ok-check_write)
     ∙ ap (λ (l : List ℕ). record { answer = record { refusal = 0; bytes = 11 }; out = l })
-    (sym (laid a.stamp a.out.now _ _ (well (goal.at.returns c).In_ok-check_write) c.store_at.ensures c.store_at-2.ensures)))
+    (sym (laid a.stamp a.out.now _ _ (well (goal.at.returns c).In_ok-check_write)
+    (c.store_at.ensures ∙ rw c.from.ensures refl)
+    (c.store_at-2.ensures ∙ rw (c.from-2.ensures, c.from-3.ensures) refl))))
