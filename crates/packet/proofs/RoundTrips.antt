@@ -11,12 +11,15 @@ use Rattle.fields.specs.Parts.{part, number_at, overlay}
 use Rattle.fields.proofs.FormatLaws.{pack-lt, pack-unpack, unpack-pack, unpack-fit, fit-not-wide}
 use Rattle.fields.proofs.NumberLaws.{number-bytes, number_lt, bytes-number, length-bytes, bytes-are, bytes-append}
 use Rattle.fields.proofs.PartLaws.{number-at, length_part, part_bytes, part-add, part-front, part-behind, take-front}
+use Rattle.std.specs.Prelude.{Err}
 use Rattle.refusals.specs.Checks.{first}
+use Rattle.refusals.specs.Refusals.{number_of}
+use Rattle.refusals.specs.declared.Refusal.{Refusal}
 use Rattle.refusals.proofs.CheckLaws.{first-zero}
-use Rattle.refusals.proofs.AnswerLaws.{answer-accepted, answer-refused, answer-shows, written-accepted, written-refused, written-shows}
+use Rattle.refusals.proofs.AnswerLaws.{answer-told, answer-accepted, answer-refused, answer-shows, written-accepted, written-refused, written-shows}
 use Rattle.packet.proofs.FieldLaws.{size-field, Readable, readable, Writable, writable}
 use Rattle.packet.specs.Layout.{header, reserved_type, payload_bytes, total_of, pad_set, size_of}
-use Rattle.packet.specs.Read.{field, header_of, payload_of, read_checks, no_header, read_of, payload_read}
+use Rattle.packet.specs.Read.{field, header_of, payload_of, read_checks, no_header, packet_told, read_of, payload_read}
 use Rattle.packet.specs.Write.{fields_of, front_bytes, packet_bytes, write_checks, write_of}
 use Rattle.packet.specs.declared.Header.{Header}
 use Rattle.packet.specs.Read.{Packet}
@@ -26,6 +29,11 @@ use Rattle.packet.specs.Read.{Packet}
 pub read-shows : (s : List ℕ) → (read_of s).refusal ≡ first (read_checks s)
 unfolding read_of
 read-shows s = answer-shows (read_checks s) _ _ (λ (p : Packet). p.refusal) (λ n. refl) refl
+
+-- what a refusal gives
+pub read-told : (s : List ℕ) (e : Refusal) → number_of e ≡ first (read_checks s) → packet_told (Err e) ≡ read_of s
+unfolding read_of
+read-told s e h = answer-told (read_checks s) _ _ e h
 
 pub read-accepted : (s : List ℕ) → first (read_checks s) ≡ 0 → read_of s ≡ record { refusal = 0; header = header_of s }
 unfolding read_of

@@ -45,7 +45,7 @@ impl From<Flaw> for Refusal {
 fn payload_bytes(bits: u32) -> usize
     ensures { result ≡ payload_bytes bits }
 {
-    (bits as usize + 7) / 8
+    bits.div_ceil(8) as usize
 }
 
 // The bytes of a packet of so many payload bits.
@@ -89,7 +89,7 @@ pub fn own_length(s: &[u8]) -> usize
 {
     let high = fields::byte_at(s, 4);
     let low = fields::byte_at(s, 5);
-    total(high as u32 * 256 + low as u32)
+    total(u32::from(u16::from_be_bytes([high, low])))
 }
 
 // The length of the good packet that s begins with.
@@ -181,9 +181,9 @@ fn reserved_set(s: &[u8]) -> bool
     h / 0x8_0000 % 512 != 0
 }
 
-// Refuses what is no T2-MI packet.
-fn check_read(s: &[u8]) -> Result<(), Refusal>
-    ensures { code result ≡ first (read_checks s.now) }
+// Reads a T2-MI packet that fills s.
+pub fn read(s: &[u8]) -> Result<Header, Refusal>
+    ensures { packet_told result ≡ read_of s.now }
 {
     if s.len() < 10 {
         return Err(Refusal::SliceUnder10);
@@ -206,23 +206,16 @@ fn check_read(s: &[u8]) -> Result<(), Refusal>
     if pad_set(h.bits, &s[6..end]) {
         return Err(Refusal::PadBitsSet);
     }
-    Ok(())
-}
-
-// Reads a T2-MI packet that fills s.
-pub fn read(s: &[u8]) -> Result<Header, Refusal>
-    ensures { packet_told result ≡ read_of s.now }
-{
-    check_read(s)?;
-    Ok(header_of(s))
+    Ok(h)
 }
 
 // The payload of the packet that fills s, with its pad, as a part of s; an empty part where the packet is refused.
 pub fn payload(s: &[u8]) -> &[u8]
     ensures { result.now ≡ payload_read s.now }
 {
-    match check_read(s) {
-        Ok(()) => &s[6..s.len() - 4],
+    // No generic function: the ranges differ, and a closure for one of them is longer than this match.
+    match read(s) {
+        Ok(_) => &s[6..s.len() - 4],
         Err(_) => &s[..0],
     }
 }
@@ -231,9 +224,10 @@ pub fn payload(s: &[u8]) -> &[u8]
 fn header_number(h: Header) -> u64
     ensures { result ≡ pack header (fields_of h) }
 {
-    h.kind as u64 * 0x100_0000_0000
-        + (h.count as u64 * 0x1_0000_0000
-            + (h.frame as u64 * 0x1000_0000 + (h.stream as u64 * 0x1_0000 + h.bits as u64)))
+    u64::from(h.kind) * 0x100_0000_0000
+        + (u64::from(h.count) * 0x1_0000_0000
+            + (u64::from(h.frame) * 0x1000_0000
+                + (u64::from(h.stream) * 0x1_0000 + u64::from(h.bits))))
 }
 
 // Whether a field is too wide for its bits. packet_type and packet_count are bytes, as their fields are.
