@@ -1,6 +1,6 @@
 -- The lines of a listing, in ASCII (01, "Listing program"): a header, one line for each packet, and the totals. Numbers are
 -- decimal, single spaces stand between them, and each line ends with a newline.
-use Rattle.std.specs.Prelude.{ℕ, cond, List, [], ◌∷◌, ◌++◌, eqb}
+use Rattle.std.specs.Prelude.{ℕ, cond, List, [], ◌∷◌, ◌++◌, eqb, Result, Ok, Err}
 use Rattle.packet.specs.Read.{read_of}
 use Rattle.packet.specs.declared.Header.{Header}
 use Rattle.packet.specs.Read.{Packet}
@@ -28,6 +28,11 @@ refused_word = 114 ∷ 101 ∷ 102 ∷ 117 ∷ 115 ∷ 101 ∷ 100 ∷ space ∷
 
 unfoldable pub refused_line : ℕ → List ℕ
 refused_line n = refused_word ++ word n newline
+
+-- the line of a header, or of the number of a refusal
+abbrev pub line_for : Result Header ℕ → List ℕ
+line_for (Ok h) = fields_line h
+line_for (Err n) = refused_line n
 
 -- the line of what reading a packet gave
 unfoldable pub line_by : Packet → List ℕ

@@ -7,9 +7,8 @@ ghost use Rattle.arrayvec.specs.ArrayString.{array_string_len};
 ghost use Rattle.gather.specs.Gather.{gathered_told};
 ghost use Rattle.packet.specs.Cut.{cut};
 ghost use Rattle.packet.specs.Read.{packet_told};
-ghost use Rattle.refusals.specs.Refusals.{number_of};
 ghost use Rattle.text.specs.Laid.{word, Appends, Lays};
-ghost use Rattle.lines.specs.Lines.{head_line, fields_line, refused_line, line_by, lines_of, last_line};
+ghost use Rattle.lines.specs.Lines.{head_line, fields_line, refused_line, line_for, line_by, lines_of, last_line};
 ghost use Rattle.lines.specs.Pieces.{pieces, kept_of};
 ghost use Rattle.lines.specs.Listing.{start_listing, after_of, roomy, step_of, step_told, fed_of, fed_told};
 
@@ -55,14 +54,14 @@ fn fields_line(h: Header) -> Line
     line
 }
 
-// The line of a refusal.
+// The line of a refusal, by its number.
 #[tactic(auto, unfolding(crate::specs::Lines::refused_line))]
-fn refused_line(refusal: Refusal) -> Line
-    ensures { result.bytes ≡ refused_line (number_of refusal) }
+fn refused_line(number: u32) -> Line
+    ensures { result.bytes ≡ refused_line number }
 {
     let mut line = Line::new();
     line.push_str("refused ");
-    lay_word(&mut line, u64::from(refusal.number()), '\n');
+    lay_word(&mut line, u64::from(number), '\n');
     line
 }
 
@@ -79,22 +78,24 @@ fn totals_line(packets: u64, gaps: u64) -> Line
     line
 }
 
-// The line of what reading a packet gave.
-#[tactic(auto, using(crate::proofs::LineLaws::told_refused, crate::proofs::LineLaws::told_fields))]
-fn read_line(p: Result<Header, Refusal>) -> Line
-    ensures { result.bytes ≡ line_by (packet_told p) }
+// Appends the line of a packet's header, or of the number of its refusal. The line is made aside, so that all of it is laid or
+// nothing. A number, no Refusal: what is promised holds of any number, and a narrower type would ask more of callers.
+pub fn line(text: &mut Text, p: Result<Header, u32>)
+    ensures { Appends (line_for p) text.old text.new }
 {
-    match p {
+    let line = match p {
         Ok(h) => fields_line(h),
-        Err(refusal) => refused_line(refusal),
-    }
+        Err(number) => refused_line(number),
+    };
+    text.append(line.as_bytes());
 }
 
-// Appends the line of what reading a packet gave. The line is made aside, so that all of it is laid or nothing.
-pub fn line(text: &mut Text, p: Result<Header, Refusal>)
+// Appends the line of what reading a packet gave.
+#[tactic(auto, using(crate::proofs::LineLaws::told_refused, crate::proofs::LineLaws::told_fields))]
+fn lay_line(text: &mut Text, p: Result<Header, Refusal>)
     ensures { Appends (line_by (packet_told p)) text.old text.new }
 {
-    text.append(read_line(p).as_bytes());
+    line(text, p.map_err(Refusal::number));
 }
 
 // Appends the header.
@@ -115,7 +116,7 @@ fn lay_lines(text: &mut Text, s: &[u8])
         let Ok(packet) = packet else {
             return;
         };
-        line(text, packet::read(packet));
+        lay_line(text, packet::read(packet));
     }
 }
 

@@ -70,9 +70,9 @@ fn list_all<R: Read>(
     output: &mut [u8],
     text: &mut Text,
 ) -> Result<(), Fault>
-    requires { listing.old ≡ start_listing }
     ensures { Ends (opened gathering.old output.old text.old.lines.now) listing.new gathering.new output.new text.new.lines.now (is_ok result) }
 {
+    *listing = Listing::start();
     let mut have: usize = 0;
     for _ in 0..u64::MAX {
         let Some(came) = more(input, block, have)? else {
