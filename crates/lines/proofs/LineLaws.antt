@@ -1,12 +1,14 @@
 -- The laws of lines: how long one is, and how the lines of packets that stand back to back go on.
 -- Assumes nothing.
 use mathlib.Core.Path.{◌≡◌, refl, sym, ap, ◌∙◌}
+use mathlib.Core.Bool.{Bool, true, false}
 use mathlib.Core.List.{List, [], ◌∷◌}
 use Prim.Native.Nat.{ℕ, ◌+◌, ◌*◌, ◌≤◌, ◌<◌}
 use native.Mathlib.Omega.{arith}
 use lib.Dec.{eqb, lit<}
 use lib.ListN.{length, length-append}
-use borrow.Author.Tests.{eq-eqb, ne_eqb, eqb-true, eqb-false}
+use borrow.Author.Tests.{eq-eqb, ne_eqb, eqb-true, eqb-false, le-ltb}
+use Rattle.crc.specs.Crc.{crc_holds}
 use Rattle.fields.specs.Formats.{unpack, Fit}
 use Rattle.fields.specs.Parts.{number_at, overlay}
 use Rattle.fields.proofs.Cases.{cases}
@@ -16,13 +18,13 @@ use Rattle.std.specs.Prelude.{Result, Ok, Err}
 use Rattle.refusals.specs.Refusals.{number_of}
 use Rattle.refusals.specs.declared.Refusal.{Refusal}
 use Rattle.refusals.proofs.NumberLaws.{number-not-0}
-use Rattle.refusals.specs.Checks.{Check, holds, number, first}
-use Rattle.packet.specs.Layout.{header}
-use Rattle.packet.specs.Read.{header_of, read_checks, no_header, Packet, packet_told}
-use Rattle.packet.specs.Cut.{Whole, joined}
+use Rattle.refusals.specs.Checks.{Check, ◌when◌, holds, number, first}
+use Rattle.packet.specs.Layout.{header, size_of, reserved_type, pad_set}
+use Rattle.packet.specs.Read.{field, header_of, payload_of, reserved_set, read_checks, no_header, read_of, Packet, packet_told}
+use Rattle.packet.specs.Cut.{Whole, cut, joined}
 use Rattle.packet.specs.declared.Header.{Header}
 use Rattle.packet.proofs.LayoutLaws.{size-least}
-use Rattle.packet.proofs.RoundTrips.{read-accepted, read-refused}
+use Rattle.packet.proofs.RoundTrips.{read-shows, read-accepted, read-refused}
 use Rattle.text.specs.Laid.{space, newline, word, laid, appended}
 use Rattle.lines.specs.Lines.{fields_line, refused_word, refused_line, line_by, line_of, lines_of}
 use Rattle.text.proofs.LayLaws.{appended-fits, laid-at, laid-lines, laid_next, laid_nil, word-few}
@@ -85,6 +87,44 @@ line-few s =
     rw ((read-refused s z).0, by-refusal (record { refusal = first (read_checks s); header = no_header }) z)
     (omega (arith, refused-few (first (read_checks s)) (refusal-under s))))
 
+-- ---- a packet by its own length is read with 14 exactly where its CRC is wrong
+
+module _ (s : List ℕ) (long : 10 ≤ length s) (size : length s ≡ size_of s) where
+  read-bad : crc_holds s ≡ false → (read_of s).refusal ≡ 14
+  unfolding read_checks
+  read-bad b = read-shows s ∙ simp (le-ltb (length s) 10 long, eq-eqb (length s) (size_of s) size, b)
+
+  other : (a b c : Bool) → first (20 when a ∷ 21 when b ∷ 22 when c ∷ []) ≡ 14 → ⊥
+  other true b c e = let z : ◌≡◌ {A = ℕ} 20 14 = e in omega arith
+  other false true c e = let z : ◌≡◌ {A = ℕ} 21 14 = e in omega arith
+  other false false true e = let z : ◌≡◌ {A = ℕ} 22 14 = e in omega arith
+  other false false false e = let z : ◌≡◌ {A = ℕ} 0 14 = e in omega arith
+
+  read-good : crc_holds s ≡ true → (read_of s).refusal ≡ 14 → ⊥
+  unfolding read_checks
+  read-good g e =
+      other (reserved_set s) (reserved_type (field 0 s)) (pad_set (field 5 s) (payload_of s))
+      (simp (le-ltb (length s) 10 long, eq-eqb (length s) (size_of s) size, g) at (sym (read-shows s) ∙ e))
+
+  pub bad-of : (read_of s).refusal ≡ 14 → crc_holds s ≡ false
+  bad-of e = cases (crc_holds s) (λ g. absurd (read-good g e)) (λ b. b)
+
+  pub good_of : ((read_of s).refusal ≡ 14 → ⊥) → crc_holds s ≡ true
+  good_of h = cases (crc_holds s) (λ g. g) (λ b. absurd (h (read-bad b)))
+
+-- ---- the lines of packets back to back, as a loop finds them
+
+abbrev pub lines_from : List ℕ → List ℕ
+lines_from l = lines_of (cut l).packets
+
+-- nothing is left
+pub nothing_left : (l : List ℕ) (w : ℕ) (m : List ℕ) → lines_from l ≡ [] → record { at = w; lines = m } ≡ laid (lines_from l) w m
+nothing_left l w m e = rw e (sym (laid_nil w m))
+
+pub no-lines : (l : List ℕ) → (cut l).packets ≡ [] → lines_from l ≡ []
+unfolding lines_of
+no-lines l e = rw e
+
 -- ---- a turn of the loop
 
 module _ (p : List ℕ) (ps : List (List ℕ)) (whole : Whole p) (w : ℕ) (m : List ℕ) (room : w + 2 * length (joined (p ∷ ps)) ≤ length m)
@@ -112,8 +152,3 @@ module _ (p : List ℕ) (ps : List (List ℕ)) (whole : Whole p) (w : ℕ) (m : 
   left-good =
       let r : List ℕ = lines_of ps in
       laid_next x r w m v (v + length r) n (overlay v r n) (omega (arith, x-few, long)) x-laid refl
-
--- nothing is left
-pub nothing_left : (ps : List (List ℕ)) (w : ℕ) (m : List ℕ) → ps ≡ [] → record { at = w; lines = m } ≡ laid (lines_of ps) w m
-unfolding lines_of
-nothing_left ps w m e = rw e (sym (laid_nil w m))

@@ -6,7 +6,7 @@ use Rattle.packet.proofs.CutLaws.{cut-cuts}
 use Rattle.packet.proofs.BatchLaws.{parts-same, parts-next, parts-end, parts-flaw}
 use Rattle.text.specs.Laid.{laid, appended}
 use Rattle.lines.specs.Lines.{line_by, line_of, lines_of}
-use Rattle.lines.proofs.LineLaws.{nothing_left, left-room, left-good}
+use Rattle.lines.proofs.LineLaws.{no-lines, nothing_left, left-room, left-good}
 use Rattle.lines.proofs.lay_lines.Goals as goal
 use Rattle.lines.proofs.lay_lines.Goals.{In-Ok}
 
@@ -39,7 +39,7 @@ loop-packet-init c =
 pub returns-in_default : goal.returns-in_default
 returns-in_default c =
     let l = c.loop-packet in
-    (l.invariant.1, nothing_left _ l.text.at l.text.lines.now (parts-flaw _ _ _ (c.in-Some.ensures.steps ∙ ap (λ x. shown x ∷ coming c.next.new.self) c.in_default.is)) ∙ l.invariant.2)
+    (l.invariant.1, nothing_left l.packet-iterator.rest.now l.text.at l.text.lines.now (no-lines _ (parts-flaw _ _ _ (c.in-Some.ensures.steps ∙ ap (λ x. shown x ∷ coming c.next.new.self) c.in_default.is))) ∙ l.invariant.2)
 
 pub loop-packet-preserved : goal.loop-packet-preserved
 loop-packet-preserved c =
@@ -50,4 +50,4 @@ loop-packet-preserved c =
 pub returns : goal.returns
 returns c =
     let l = c.loop-packet in
-    (l.invariant.1, nothing_left _ l.text.at l.text.lines.now (parts-end _ c.in-None.ensures.steps.0) ∙ l.invariant.2)
+    (l.invariant.1, nothing_left l.packet-iterator.rest.now l.text.at l.text.lines.now (no-lines _ (parts-end _ c.in-None.ensures.steps.0)) ∙ l.invariant.2)
