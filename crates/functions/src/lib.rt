@@ -55,6 +55,7 @@ fn body_long(n: usize) -> bool
 pub fn body_wrong(tag: u8, n: usize) -> bool
     ensures { result ≡ body_wrong tag n }
 {
+    // Tags as numbers: every other byte is a tag too, and is passed through (Passed).
     match tag {
         TIME_OFFSET | POWER => n != 2,
         FREQUENCY_OFFSET | CELL => n != 3,
@@ -80,6 +81,7 @@ pub fn bandwidth_reserved(tag: u8, first: u8) -> bool
 }
 
 // The number that 24 bits stand for in two's complement.
+// No library type has 24 bits.
 #[tactic(auto, unfolding(fields::specs::Signed::signed))]
 fn signed_24(v: u32) -> i32
     requires { v < 2 ^ 24 }
@@ -93,6 +95,7 @@ fn signed_24(v: u32) -> i32
 }
 
 // The 24 bits that stand for a number in two's complement.
+// No library type has 24 bits.
 #[tactic(auto, unfolding(fields::specs::Signed::unsigned))]
 fn unsigned_24(z: i32) -> u64
     requires { InSigned 24 z }
@@ -108,6 +111,7 @@ fn function_of(tag: u8, body: &[u8]) -> Function
     ensures { result ≡ function_of tag body.now }
 {
     let v = fields::number_at(body, 0, body.len());
+    // Tags as numbers: every other byte is a tag too, and is passed through (Passed).
     match tag {
         TIME_OFFSET => Function::TimeOffset((v as u16).cast_signed()),
         FREQUENCY_OFFSET => Function::FrequencyOffset(signed_24(v as u32)),
@@ -158,10 +162,8 @@ fn body_size(f: Function, bytes: &[u8]) -> usize
     ensures { result ≡ length (body_of f bytes.now) }
 {
     match f {
-        Function::TimeOffset(_) => 2,
-        Function::FrequencyOffset(_) => 3,
-        Function::Power(_) => 2,
-        Function::Cell { .. } => 3,
+        Function::TimeOffset(_) | Function::Power(_) => 2,
+        Function::FrequencyOffset(_) | Function::Cell { .. } => 3,
         Function::Bandwidth { .. } => 1,
         Function::Private | Function::Enable | Function::Passed(_) => bytes.len(),
     }

@@ -1,5 +1,6 @@
 // The library as C sees it: thin functions over the crates below. A slice is a pointer and a length, and an answer a
 // struct by value.
+// Numbers for refusals, kinds and flags: C has no Option, Result or enum with values (include/sfn.h).
 #![tactic(auto)]
 
 mod reader;
@@ -29,7 +30,7 @@ use stamp::{Kind, Stamp, Subseconds};
 
 // What reading a T2-MI packet gives, with the header's fields beside the refusal.
 #[repr(C)]
-#[derive(Clone, Copy)]
+#[derive(Clone, Copy, Default)]
 pub struct SfnPacket {
     pub refusal: u32,
     pub bits: u32,
@@ -54,11 +55,7 @@ impl From<Result<Header, Refusal>> for SfnPacket {
             },
             Err(refusal) => SfnPacket {
                 refusal: refusal.number(),
-                bits: 0,
-                kind: 0,
-                count: 0,
-                frame: 0,
-                stream: 0,
+                ..SfnPacket::default()
             },
         }
     }
@@ -189,6 +186,7 @@ pub struct SfnFunction {
 }
 
 // A count in C's 32 bits.
+// No try_from: the caller shows the bound (docs/DECISIONS.md), and nothing is tested at run time.
 fn count_32(n: usize) -> u32
     requires { n < 2 ^ 32 }
     ensures { result ≡ n }
@@ -279,6 +277,7 @@ fn flag(n: u8) -> Option<bool>
 
 // The function that C's arguments make, where n bytes come with them: a tag like its kind, no bytes but for the kinds
 // that carry a body, and values that fit. None, for which 38 is answered, where they make none.
+// C's arguments, one by one.
 #[tactic(auto, unfolding(crate::specs::Making::made_of))]
 fn function_from(
     kind: u8,
@@ -296,6 +295,7 @@ fn function_from(
     if tag != kind {
         return None;
     }
+    // Kinds by number: C's arguments.
     match kind {
         PRIVATE => Some(Function::Private),
         ENABLE => Some(Function::Enable),

@@ -1,4 +1,5 @@
 // The gathering reader, as C sees it.
+// Numbers for refusals, kinds and flags: C has no Option, Result or enum with values (include/sfn.h).
 ghost use Rattle.std.specs.Prelude.{◌≡◌, ◌^◌, ◌<◌};
 ghost use Rattle.gather.specs.State.{start_of};
 ghost use Rattle.refusals.specs.Refusals.{number_of};
@@ -10,7 +11,7 @@ use refusals::Refusal;
 
 // A reader's state. last is the last count taken, or 255 for none; in_step is 0 or 1.
 #[repr(C)]
-#[derive(Clone, Copy)]
+#[derive(Clone, Copy, Default)]
 pub struct SfnReader {
     pub pid: u16,
     pub last: u8,
@@ -19,7 +20,7 @@ pub struct SfnReader {
 }
 
 #[repr(C)]
-#[derive(Clone, Copy)]
+#[derive(Clone, Copy, Default)]
 pub struct SfnStarted {
     pub refusal: u32,
     pub reader: SfnReader,
@@ -27,7 +28,7 @@ pub struct SfnStarted {
 
 // What gathering one transport packet gives. A mark is 1 where it is set.
 #[repr(C)]
-#[derive(Clone, Copy)]
+#[derive(Clone, Copy, Default)]
 pub struct SfnGathered {
     pub refusal: u32,
     pub reader: SfnReader,
@@ -72,11 +73,7 @@ fn refused(refusal: Refusal, reader: SfnReader) -> SfnGathered
     SfnGathered {
         refusal: refusal.number(),
         reader,
-        bytes: 0,
-        packets: 0,
-        loss: 0,
-        misfit: 0,
-        crc: 0,
+        ..SfnGathered::default()
     }
 }
 
@@ -90,12 +87,7 @@ pub fn sfn_start(pid: u16) -> SfnStarted
         },
         Err(refusal) => SfnStarted {
             refusal: refusal.number(),
-            reader: SfnReader {
-                pid: 0,
-                last: 0,
-                in_step: 0,
-                waiting: 0,
-            },
+            ..SfnStarted::default()
         },
     }
 }
@@ -108,6 +100,7 @@ pub fn sfn_gather(
 ) -> SfnGathered
     ensures { record { answer = result; gathering = gathering.new; out = out.new } ≡ gathered_by reader transport.now gathering.old out.old }
 {
+    // Not by flag: an edit of its own changes this test.
     if 1 < reader.in_step {
         return refused(Refusal::TooWideOrUnfitState, reader);
     }

@@ -1,4 +1,5 @@
 // Addressing, the MIP and site timing, as C sees them.
+// Numbers for refusals, kinds and flags: C has no Option, Result or enum with values (include/sfn.h).
 ghost use Rattle.std.specs.Prelude.{◌≡◌, ◌^◌, ◌<◌};
 ghost use Rattle.addressing.specs.Data.{house};
 ghost use Rattle.addressing.specs.Payload.{payload_of, write_of as addressing_written};
@@ -14,7 +15,7 @@ use refusals::{Refusal, Written};
 
 // What reading an addressing payload gives. Its data begins at byte 2.
 #[repr(C)]
-#[derive(Clone, Copy)]
+#[derive(Clone, Copy, Default)]
 pub struct SfnAddressing {
     pub refusal: u32,
     pub bytes: u32,
@@ -22,7 +23,7 @@ pub struct SfnAddressing {
 
 // A step of a walk. given is 1 with a function, and 0 at the data's end.
 #[repr(C)]
-#[derive(Clone, Copy)]
+#[derive(Clone, Copy, Default)]
 pub struct SfnWalked {
     pub refusal: u32,
     pub start: u32,
@@ -34,7 +35,7 @@ pub struct SfnWalked {
 
 // What reading a MIP gives. Its addressing data begins at byte 21.
 #[repr(C)]
-#[derive(Clone, Copy)]
+#[derive(Clone, Copy, Default)]
 pub struct SfnMip {
     pub refusal: u32,
     pub stamp: u32,
@@ -49,7 +50,7 @@ pub struct SfnMip {
 
 // A time in steps of 100 ns.
 #[repr(C)]
-#[derive(Clone, Copy)]
+#[derive(Clone, Copy, Default)]
 pub struct SfnTime {
     pub refusal: u32,
     pub steps: u32,
@@ -66,7 +67,7 @@ impl From<Result<Steps, Refusal>> for SfnTime {
             },
             Err(refusal) => SfnTime {
                 refusal: refusal.number(),
-                steps: 0,
+                ..SfnTime::default()
             },
         }
     }
@@ -75,6 +76,7 @@ impl From<Result<Steps, Refusal>> for SfnTime {
 pub fn sfn_addressing_read(payload: &[u8]) -> SfnAddressing
     ensures { result ≡ addressing_of (payload_of house payload.now) }
 {
+    // No From: the counts must fit C's 32 bits, which only the definition's own answers do.
     match addressing::payload_read(payload) {
         Ok(bytes) => SfnAddressing {
             refusal: 0,
@@ -82,7 +84,7 @@ pub fn sfn_addressing_read(payload: &[u8]) -> SfnAddressing
         },
         Err(refusal) => SfnAddressing {
             refusal: refusal.number(),
-            bytes: 0,
+            ..SfnAddressing::default()
         },
     }
 }
@@ -90,7 +92,7 @@ pub fn sfn_addressing_read(payload: &[u8]) -> SfnAddressing
 pub fn sfn_addressing_write(addressed: &[u8], out: &mut [u8]) -> Written
     ensures { record { answer = result; out = out.new } ≡ addressing_written house addressed.now out.old }
 {
-    Written::from(addressing::payload_write(addressed, out))
+    addressing::payload_write(addressed, out).into()
 }
 
 // A walk's answer laid out flat.
@@ -109,12 +111,8 @@ fn walked_flat(w: Walked) -> SfnWalked
             tag,
         },
         None => SfnWalked {
-            refusal: 0,
-            start: 0,
-            body: 0,
             next,
-            given: 0,
-            tag: 0,
+            ..SfnWalked::default()
         },
     }
 }
@@ -122,15 +120,12 @@ fn walked_flat(w: Walked) -> SfnWalked
 pub fn sfn_walk(addressed: &[u8], transmitter: u16, place: u32) -> SfnWalked
     ensures { result ≡ walked_of (walk_of house addressed.now transmitter place) }
 {
+    // No From: the counts must fit C's 32 bits, which only the definition's own answers do.
     match addressing::walk_from(addressed, transmitter, place as usize) {
         Ok(walked) => walked_flat(walked),
         Err(refusal) => SfnWalked {
             refusal: refusal.number(),
-            start: 0,
-            body: 0,
-            next: 0,
-            given: 0,
-            tag: 0,
+            ..SfnWalked::default()
         },
     }
 }
@@ -138,6 +133,7 @@ pub fn sfn_walk(addressed: &[u8], transmitter: u16, place: u32) -> SfnWalked
 pub fn sfn_mip_read(packet: &[u8]) -> SfnMip
     ensures { result ≡ mip_flat (mip_read packet.now) }
 {
+    // No From: the counts must fit C's 32 bits, which only the definition's own answers do.
     match mip::read(packet) {
         Ok(p) => SfnMip {
             refusal: 0,
@@ -152,14 +148,7 @@ pub fn sfn_mip_read(packet: &[u8]) -> SfnMip
         },
         Err(refusal) => SfnMip {
             refusal: refusal.number(),
-            stamp: 0,
-            delay: 0,
-            tps: 0,
-            addressing: 0,
-            pointer: 0,
-            future: 0,
-            count: 0,
-            periodic: 0,
+            ..SfnMip::default()
         },
     }
 }
@@ -177,11 +166,12 @@ pub fn sfn_mip_write(
 ) -> Written
     ensures { record { answer = result; out = out.new } ≡ mip_written count pointer periodic future stamp delay tps addressed.now out.old }
 {
+    // Not by flag: an edit of its own changes this test.
     if 1 < periodic {
         if 163 < addressed.len() {
-            return Written::from(Err(Refusal::MipAddressingOver163));
+            return Err(Refusal::MipAddressingOver163).into();
         }
-        return Written::from(Err(Refusal::TooWideOrUnfitState));
+        return Err(Refusal::TooWideOrUnfitState).into();
     }
     let m = Mip {
         count,
@@ -192,17 +182,17 @@ pub fn sfn_mip_write(
         delay: Steps(delay),
         tps,
     };
-    Written::from(mip::write(m, addressed, out))
+    mip::write(m, addressed, out).into()
 }
 
 pub fn sfn_emission(stamp: u32, delay: u32, offset: i32) -> SfnTime
     ensures { result ≡ time_of (emission_of (steps stamp) (steps delay) offset) }
 {
-    SfnTime::from(mip::emission(Steps(stamp), Steps(delay), offset))
+    mip::emission(Steps(stamp), Steps(delay), offset).into()
 }
 
 pub fn sfn_extra_delay(stamp: u32, delay: u32, offset: i32, reception: u32) -> SfnTime
     ensures { result ≡ time_of (extra_of (steps stamp) (steps delay) offset (steps reception)) }
 {
-    SfnTime::from(mip::extra_delay(Steps(stamp), Steps(delay), offset, Steps(reception)))
+    mip::extra_delay(Steps(stamp), Steps(delay), offset, Steps(reception)).into()
 }

@@ -1,4 +1,5 @@
 // The static library for C: each function of `sfn` exported under its name, with the same clauses. Rattle's own callers use `sfn`.
+// Twins of sfn's functions: a crate is a library or an archive, and door stands on the library.
 #![tactic(auto)]
 
 ghost use Rattle.std.specs.Prelude.{◌≡◌, length};

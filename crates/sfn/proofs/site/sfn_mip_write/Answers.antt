@@ -39,19 +39,19 @@ same a b result out e = rw e
 pub returns-then-addressed-gt163 : goal.returns-then-addressed-gt163
 returns-then-addressed-gt163 c =
     let a = c.args in
-    ap (λ (w : Written). record { answer = w; out = a.out.now }) c.from.ensures
+    ap (λ (w : Written). record { answer = w; out = a.out.now }) c.into.ensures
     ∙ written-number _ _ _ 36 (over-163 a.periodic (mip_made a.count a.pointer a.periodic a.future a.stamp a.delay a.tps) a.addressed.now (length a.out.now) (lt-ltb _ _ c.if-addressed-gt163.true)) (λ e. omega arith)
 
 pub returns-then-periodic-gt1 : goal.returns-then-periodic-gt1
 returns-then-periodic-gt1 c =
     let a = c.args in
-    ap (λ (w : Written). record { answer = w; out = a.out.now }) c.from-then-periodic-gt1.ensures
+    ap (λ (w : Written). record { answer = w; out = a.out.now }) c.into-then-periodic-gt1.ensures
     ∙ written-number _ _ _ 38 (over-one a.periodic (mip_made a.count a.pointer a.periodic a.future a.stamp a.delay a.tps) a.addressed.now (length a.out.now) (le-ltb _ _ c.if-addressed-gt163.false) (lt-ltb 1 a.periodic c.if-periodic-gt1.true)) (λ e. omega arith)
 
 pub returns : goal.returns
 unfolding write_of
 returns c =
     let a = c.args in
-    ap (λ (w : Written). record { answer = w; out = c.write.new.out }) c.from-2.ensures
+    ap (λ (w : Written). record { answer = w; out = c.write.new.out }) c.into-2.ensures
     ∙ c.write.ensures
     ∙ same _ _ _ _ (as-mip a.periodic (mip_made a.count a.pointer a.periodic a.future a.stamp a.delay a.tps) a.addressed.now (length a.out.now) (le-ltb _ _ c.if-periodic-gt1.false))
