@@ -15,11 +15,10 @@ use Rattle.packet.proofs.LayoutLaws.{size-least}
 use Rattle.gather.specs.Marks.{no_marks, mark_loss, mark_misfit}
 use Rattle.gather.specs.Rules.{Hand, dropped, lost, misfits, out_of_turn, reaches, rule_one}
 use Rattle.gather.specs.Gather.{in_hand}
-use Rattle.gather.specs.Phases.{numbers, hand_of, Entered}
+use Rattle.gather.specs.Phases.{Numbers, numbers, hand_of, Entered}
 use Rattle.gather.specs.declared.Marks.{Marks}
 use Rattle.std.specs.Prelude.{Option}
 use Rattle.gather.specs.declared.Reader.{Reader}
-use Rattle.gather.specs.declared.Numbers.{Numbers}
 
 -- ---- as a call begins
 

@@ -23,9 +23,8 @@ use Rattle.gather.specs.State.{gather_checks}
 use Rattle.gather.specs.Rules.{none, brought_by, Hand, hands_out, strays, rule_one, up_to_start, rules_on}
 use Rattle.gather.specs.Gather.{Gathered, gathered_told, in_hand, joiners, refused_of, taken_of, gather_of}
 use Rattle.gather.specs.declared.Gathered as given
-use Rattle.gather.specs.Phases.{answer_by, AfterStage, led_of, with_start_of}
+use Rattle.gather.specs.Phases.{answer_by, numbers, InHand, led_of, with_start_of}
 use Rattle.gather.specs.declared.Reader.{Reader}
-use Rattle.gather.specs.declared.Numbers.{Numbers}
 use Rattle.gather.proofs.EnterLaws.{Stands}
 use Rattle.gather.proofs.JoinLaws.{passes-joiners, some-join, joint, stage_cases}
 
@@ -93,20 +92,22 @@ module _ (s : Reader) (t g o : List ℕ) where
   abbrev e : Hand
   e = rule_one s.last (count_of t) (in_hand s g)
 
-  module _ (entered : Numbers) (stands : Stands entered g e) (r : Numbers) (g' o' : List ℕ) (a : Gathered) (n m : ℕ) (at-is : n ≡ payload_at t) (count-is : m ≡ count_of t) (q : a ≡ answer_by s.pid m r) where
+  -- b is in hand behind rule 1, and k behind the others
+  module _ (stands : Stands (numbers e) g e) (b : InHand) (enters : b ≡ record { held = numbers e; gathering = g; output = o }) (k : InHand)
+      (a : Gathered) (n m : ℕ) (at-is : n ≡ payload_at t) (count-is : m ≡ count_of t) (q : a ≡ answer_by s.pid m k.held) where
     pub taken_start : starts t ≡ true → (p : ℕ) → p ≡ pointer_of t → (before onward : List ℕ) → before ≡ take p (drop (n + 1) t) → onward ≡ drop p (drop (n + 1) t)
-        → record { held = r; gathering = g'; output = o' } ≡ with_start_of entered before onward g o
-        → record { answer = a; gathering = g'; output = o' } ≡ taken_of s t g o
+        → k ≡ with_start_of before onward b
+        → record { answer = a; gathering = k.gathering; output = k.output } ≡ taken_of s t g o
     unfolding taken_of rules_on with_start_of
-    taken_start b p pointer_is before onward before-is onward-is f =
-        let k = rw (before-is, onward-is, stands.is, ← stands.long, at-is, pointer_is) at f in
-        rw (brings-start t b, q, count-is, ap (λ (x : AfterStage). x.held) k, ap (λ (x : AfterStage). x.gathering) k, ap (λ (x : AfterStage). x.output) k)
+    taken_start c p pointer_is before onward before-is onward-is f =
+        let l = rw (enters, before-is, onward-is, stands.is, at-is, pointer_is) at f in
+        rw (brings-start t c, q, count-is, l)
 
-    pub taken-plain : starts t ≡ false → entered.waiting ≤ length g → (payload : List ℕ) → payload ≡ drop n t
-        → record { held = r; gathering = g'; output = o' } ≡ led_of entered payload g o
-        → record { answer = a; gathering = g'; output = o' } ≡ taken_of s t g o
+    pub taken-plain : starts t ≡ false → length e.waiting ≤ length g → (payload : List ℕ) → payload ≡ drop n t
+        → k ≡ led_of payload b
+        → record { answer = a; gathering = k.gathering; output = k.output } ≡ taken_of s t g o
     unfolding taken_of rules_on led_of
-    taken-plain b i payload payload-is f =
-        let k = rw (payload-is, stands.is, ← stands.long, at-is) at f in
-        let lies : take (length e.waiting) g ≡ e.waiting = rw stands.long (ap (λ (x : Hand). x.waiting) stands.is) in
-        rw (brings-plain t b, q, count-is, ap (λ (x : AfterStage). x.held) k, ap (λ (x : AfterStage). x.gathering) k, ap (λ (x : AfterStage). x.output) k, stage-stays (drop (payload_at t) t) g e (rw stands.long i) lies)
+    taken-plain c i payload payload-is f =
+        let l = rw (enters, payload-is, stands.is, at-is) at f in
+        let lies : take (length e.waiting) g ≡ e.waiting = ap (λ (x : Hand). x.waiting) stands.is in
+        rw (brings-plain t c, q, count-is, l, stage-stays (drop (payload_at t) t) g e i lies)

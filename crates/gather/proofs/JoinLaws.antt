@@ -14,18 +14,21 @@ use Rattle.crc.specs.Crc.{crc_holds}
 use Rattle.fields.specs.Numbers.{Bytes}
 use Rattle.fields.specs.Parts.{overlay}
 use Rattle.fields.proofs.Cases.{cases}
-use Rattle.fields.proofs.PartLaws.{overlay-none, take-overlay}
+use Rattle.fields.proofs.PartLaws.{overlay-is, overlay-none, take-overlay}
 use Rattle.packet.specs.Layout.{size_of}
 use Rattle.packet.specs.Cut.{joined}
 use Rattle.packet.proofs.LayoutLaws.{size-least, size-most, size-append}
 use Rattle.packet.proofs.CutLaws.{judged-short, judged-bad, judged-good, joined-one}
 use Rattle.gather.specs.Rules.{none, Hand, crc_fails, waits, hands_out, strays, joining, up_to_start}
 use Rattle.gather.specs.Gather.{joiners}
-use Rattle.gather.specs.Phases.{misfits_in, crc_fails_in, waits_in, hands_out_in, numbers, hand_of, Entered, Ready, AfterStage, led_of}
+use Rattle.gather.specs.Phases.{Numbers, misfits_in, crc_fails_in, waits_in, hands_out_in, numbers, hand_of, Entered, Ready, InHand, led_of}
 use Rattle.gather.specs.Theorems.{Front, nothing, finished-one}
-use Rattle.gather.specs.declared.Numbers.{Numbers}
 
 -- ---- waiting bytes with new ones behind them
+
+-- a buffer stays as long
+pub longer : (at : ℕ) (p l : List ℕ) → at ≤ length l → length l ≤ length (overlay at p l)
+longer at p l h = rw (overlay-is at p l) (simp (length-append, length-take-le at l h, length-drop) (omega arith))
 
 pub length-zero : (l : List ℕ) → length l ≡ 0 → l ≡ []
 length-zero [] e = refl
@@ -113,120 +116,124 @@ numbered e w b p h i j = rw (← h, ← i, ← j)
 
 -- what the buffers hold where nothing joins and nothing is handed out
 laid_none : (e : Numbers) (g o : List ℕ) (held : Numbers)
-    → ◌≡◌ {A = AfterStage} (record { held = held; gathering = g; output = o }) (record { held = held; gathering = overlay e.waiting [] g; output = overlay 0 [] o })
+    → ◌≡◌ {A = InHand} (record { held = held; gathering = g; output = o }) (record { held = held; gathering = overlay e.waiting [] g; output = overlay 0 [] o })
 laid_none e g o held = rw (overlay-none e.waiting g, overlay-none 0 o)
 
-module _ (e : Numbers) (d g o : List ℕ) (ready : Ready e g o) where
-  abbrev h : Hand
-  h = hand_of e g
-
-  abbrev left : Entered e g
-  left = ready.entered
-
-  mine : e ≡ numbers h
-  unfolding joined
-  mine = numbered e (length (take e.waiting g)) 0 0 (sym (length-take-le e.waiting g (omega (arith, left.few, ready.roomy)))) left.bytes left.packets
-
-  pub led-passed : e.in_step ≡ false → record { held = e; gathering = g; output = o } ≡ led_of e d g o
-  unfolding led_of joined
-  led-passed s =
-      rw (passes d h s, passes-joiners d h s) (laid_none e g o e ∙ ap (λ (x : Numbers). record { held = x; gathering = overlay e.waiting [] g; output = overlay 0 [] o }) mine)
-
-  module _ (s : e.in_step ≡ true) (z : e.waiting ≡ 0) where
-    empty : take e.waiting g ≡ []
-    empty = ap (λ (n : ℕ). take n g) z
-
-    pub led-nothing : none d ≡ true → record { held = e; gathering = g; output = o } ≡ led_of e d g o
-    unfolding led_of joined
-    led-nothing n =
-        rw (strays-in d h s empty, none-joins d h s empty, n) (laid_none e g o e ∙ ap (λ (x : Numbers). record { held = x; gathering = overlay e.waiting [] g; output = overlay 0 [] o }) mine)
-
-    pub led-strays : none d ≡ false → (r : Numbers) → r ≡ misfits_in e
-        → record { held = r; gathering = g; output = o } ≡ led_of e d g o
-    unfolding led_of joined
-    led-strays n r q =
-        rw (strays-in d h s empty, none-joins d h s empty, n) (laid_none e g o r ∙ ap (λ (x : Numbers). record { held = x; gathering = overlay e.waiting [] g; output = overlay 0 [] o }) (q ∙ rw (left.bytes, left.packets)))
-
 -- d joins, and `size` is the packet's own length
-pub record Joins (e : Numbers) (d g o : List ℕ) (size : ℕ) : Type 0 where
-  pub ready : Ready e g o
-  pub in-step : e.in_step ≡ true
-  pub some : 0 < e.waiting
-  pub own : size ≡ size_of (take e.waiting g ++ d)
+pub record Joins (b : InHand) (d : List ℕ) (size : ℕ) : Type 0 where
+  pub ready : Ready b
+  pub in-step : b.held.in_step ≡ true
+  pub some : 0 < b.held.waiting
+  pub own : size ≡ size_of (take b.held.waiting b.gathering ++ d)
   pub small : size ≤ 8202
 
-module _ (e : Numbers) (d g o : List ℕ) (size : ℕ) (j : Joins e d g o size) where
-  abbrev w : ℕ
-  w = e.waiting
+module _ (b : InHand) (d : List ℕ) where
+  abbrev e : Numbers
+  e = b.held
 
-  abbrev all : List ℕ
-  all = take w g ++ d
+  abbrev g : List ℕ
+  g = b.gathering
 
-  abbrev en : Entered e g
-  en = j.ready.entered
+  abbrev o : List ℕ
+  o = b.output
 
-  fits : w < length g
-  fits = omega (arith, en.few, j.ready.roomy)
+  module _ (ready : Ready b) where
+    abbrev h : Hand
+    h = hand_of e g
 
-  long-w : length (take w g) ≡ w
-  long-w = length-take-le w g (omega (arith, fits))
+    abbrev left : Entered e g
+    left = ready.entered
 
-  long : length all ≡ w + length d
-  long = length-append (take w g) d ∙ rw long-w
+    mine : e ≡ numbers h
+    unfolding joined
+    mine = numbered e (length (take e.waiting g)) 0 0 (sym (length-take-le e.waiting g (omega (arith, left.few, ready.roomy)))) left.bytes left.packets
 
-  pub beyond : w < size
-  beyond = rw (← j.own, long-w) at (size-beyond (take w g) d (rw long-w en.short))
-
-  waiting : none (take w g) ≡ false
-  waiting = ne_eqb (length (take w g)) 0 (λ z. omega (arith, j.some, long-w, z))
-
-  joining-bytes : joiners d (hand_of e g) ≡ take (size - w) d
-  joining-bytes = some-join d (hand_of e g) j.in-step waiting ∙ rw (← j.own, long-w)
-
-  pub led-waits : w + length d < size → (r : Numbers) (after : List ℕ) → after ≡ overlay w d g
-      → r ≡ waits_in (w + length d) e
-      → record { held = r; gathering = after; output = o } ≡ led_of e d g o
-  unfolding led_of joined
-  led-waits k r after f q =
-      rw (joins-short d (hand_of e g) j.in-step waiting (rw (long, ← j.own) k), joining-bytes, take_all (size - w) d (omega arith), overlay-none 0 o, long, f, q, en.bytes, en.packets)
-
-  module _ (k : size ≤ w + length d) (after : List ℕ) (f : after ≡ overlay w (take (size - w) d) g) where
-    -- the packet stands in the gathering buffer
-    pub stands : take size after ≡ take size all
-    stands =
-        let l : length (take (size - w) d) ≡ size - w = length-take-le (size - w) d (omega arith) in
-        let m : w + (size - w) ≡ size = omega (arith, beyond) in
-        ap (take size) f
-        ∙ (rw (l, m) at (take-overlay w (take (size - w) d) g (omega (arith, fits))))
-        ∙ sym (rw (long-w, m) at (take-append-add (take w g) d (size - w)))
-
-    pub packet-long : length (take size all) ≡ size
-    packet-long = length-take-le size all (rw long k)
-
-    finished : size_of all ≤ length all
-    finished = rw (long, ← j.own) k
-
-    pub led-fails : crc_holds (take size all) ≡ false → (r : Numbers)
-        → r ≡ crc_fails_in e
-        → record { held = r; gathering = after; output = o } ≡ led_of e d g o
+    pub led-passed : e.in_step ≡ false → b ≡ led_of d b
     unfolding led_of joined
-    led-fails c r q =
-        rw (joins-bad d (hand_of e g) j.in-step waiting finished (rw (← j.own) c), joining-bytes, overlay-none 0 o, f, q, en.bytes, en.packets)
+    led-passed s =
+        rw (passes d h s, passes-joiners d h s) (laid_none e g o e ∙ ap (λ (x : Numbers). record { held = x; gathering = overlay e.waiting [] g; output = overlay 0 [] o }) mine)
 
-    module _ (c : crc_holds (take size all) ≡ true) (out : List ℕ) (l : out ≡ overlay 0 (take size all) o) (r : Numbers) where
-      handed : led_of e d g o ≡ record { held = numbers (strays (drop size all) (hands_out (take size all ∷ []) (hand_of e g))); gathering = after; output = overlay 0 (joined (strays (drop size all) (hands_out (take size all ∷ []) (hand_of e g))).packets) o }
-      unfolding led_of
-      handed = rw (joins-good d (hand_of e g) j.in-step waiting finished (rw (← j.own) c), joining-bytes, f, ← j.own)
+    module _ (s : e.in_step ≡ true) (z : e.waiting ≡ 0) where
+      empty : take e.waiting g ≡ []
+      empty = ap (λ (n : ℕ). take n g) z
 
-      pub led-over : size < w + length d → r ≡ misfits_in (hands_out_in size e)
-          → record { held = r; gathering = after; output = out } ≡ led_of e d g o
-      led-over m q =
-          sym (handed ∙ rw (ne_eqb (length (drop size all)) 0 (λ z. omega (arith, z, length-drop size all, long)), joined-one (take size all), packet-long, l, q, en.bytes, en.packets, zero-add size))
+      pub led-nothing : none d ≡ true → b ≡ led_of d b
+      unfolding led_of joined
+      led-nothing n =
+          rw (strays-in d h s empty, none-joins d h s empty, n) (laid_none e g o e ∙ ap (λ (x : Numbers). record { held = x; gathering = overlay e.waiting [] g; output = overlay 0 [] o }) mine)
 
-      pub led-even : w + length d ≤ size → r ≡ hands_out_in size e
-          → record { held = r; gathering = after; output = out } ≡ led_of e d g o
-      led-even m q =
-          sym (handed ∙ rw (eq-eqb (length (drop size all)) 0 (omega (arith, length-drop size all, long)), joined-one (take size all), packet-long, l, q, en.bytes, en.packets, zero-add size))
+      pub led-strays : none d ≡ false → record { held = misfits_in e; gathering = g; output = o } ≡ led_of d b
+      unfolding led_of joined
+      led-strays n =
+          rw (strays-in d h s empty, none-joins d h s empty, n) (laid_none e g o (misfits_in e) ∙ rw (left.bytes, left.packets))
+
+  module _ (size : ℕ) (j : Joins b d size) where
+    abbrev w : ℕ
+    w = e.waiting
+
+    abbrev all : List ℕ
+    all = take w g ++ d
+
+    abbrev en : Entered e g
+    en = j.ready.entered
+
+    fits : w < length g
+    fits = omega (arith, en.few, j.ready.roomy)
+
+    long-w : length (take w g) ≡ w
+    long-w = length-take-le w g (omega (arith, fits))
+
+    long : length all ≡ w + length d
+    long = length-append (take w g) d ∙ rw long-w
+
+    pub beyond : w < size
+    beyond = rw (← j.own, long-w) at (size-beyond (take w g) d (rw long-w en.short))
+
+    waiting : none (take w g) ≡ false
+    waiting = ne_eqb (length (take w g)) 0 (λ z. omega (arith, j.some, long-w, z))
+
+    joining-bytes : joiners d (hand_of e g) ≡ take (size - w) d
+    joining-bytes = some-join d (hand_of e g) j.in-step waiting ∙ rw (← j.own, long-w)
+
+    pub led-waits : w + length d < size → (after : List ℕ) → after ≡ overlay w d g
+        → record { held = waits_in (w + length d) e; gathering = after; output = o } ≡ led_of d b
+    unfolding led_of joined
+    led-waits k after f =
+        rw (joins-short d (hand_of e g) j.in-step waiting (rw (long, ← j.own) k), joining-bytes, take_all (size - w) d (omega arith), overlay-none 0 o, long, f, en.bytes, en.packets)
+
+    module _ (k : size ≤ w + length d) (after : List ℕ) (f : after ≡ overlay w (take (size - w) d) g) where
+      -- the packet stands in the gathering buffer
+      pub stands : take size after ≡ take size all
+      stands =
+          let l : length (take (size - w) d) ≡ size - w = length-take-le (size - w) d (omega arith) in
+          let m : w + (size - w) ≡ size = omega (arith, beyond) in
+          ap (take size) f
+          ∙ (rw (l, m) at (take-overlay w (take (size - w) d) g (omega (arith, fits))))
+          ∙ sym (rw (long-w, m) at (take-append-add (take w g) d (size - w)))
+
+      pub packet-long : length (take size all) ≡ size
+      packet-long = length-take-le size all (rw long k)
+
+      finished : size_of all ≤ length all
+      finished = rw (long, ← j.own) k
+
+      pub led-fails : crc_holds (take size all) ≡ false → record { held = crc_fails_in e; gathering = after; output = o } ≡ led_of d b
+      unfolding led_of joined
+      led-fails c =
+          rw (joins-bad d (hand_of e g) j.in-step waiting finished (rw (← j.own) c), joining-bytes, overlay-none 0 o, f, en.bytes, en.packets)
+
+      module _ (c : crc_holds (take size all) ≡ true) (out : List ℕ) (l : out ≡ overlay 0 (take size all) o) where
+        handed : led_of d b ≡ record { held = numbers (strays (drop size all) (hands_out (take size all ∷ []) (hand_of e g))); gathering = after; output = overlay 0 (joined (strays (drop size all) (hands_out (take size all ∷ []) (hand_of e g))).packets) o }
+        unfolding led_of
+        handed = rw (joins-good d (hand_of e g) j.in-step waiting finished (rw (← j.own) c), joining-bytes, f, ← j.own)
+
+        pub led-over : size < w + length d → record { held = misfits_in (hands_out_in size e); gathering = after; output = out } ≡ led_of d b
+        led-over m =
+            sym (handed ∙ rw (ne_eqb (length (drop size all)) 0 (λ z. omega (arith, z, length-drop size all, long)), joined-one (take size all), packet-long, l, en.bytes, en.packets, zero-add size))
+
+        pub led-even : w + length d ≤ size → record { held = hands_out_in size e; gathering = after; output = out } ≡ led_of d b
+        led-even m =
+            sym (handed ∙ rw (eq-eqb (length (drop size all)) 0 (omega (arith, length-drop size all, long)), joined-one (take size all), packet-long, l, en.bytes, en.packets, zero-add size))
 
 -- ---- what the stage hands out
 

@@ -8,11 +8,10 @@ use native.Mathlib.Nat.{min-le_right}
 use native.Mathlib.Omega.{arith}
 use lib.Dec.{leb}
 use lib.ListN.{length, take, drop, length-append, length-drop, length-take}
-use lib.Seq.{take-length, drop-length, length-take-le}
+use lib.Seq.{take-length, drop-length}
 use borrow.Author.Tests.{eq-eqb, lt-leb, leb-true, leb-false}
 use Rattle.fields.specs.Parts.{overlay}
 use Rattle.fields.proofs.Cases.{cases}
-use Rattle.fields.proofs.PartLaws.{overlay-is}
 use Rattle.refusals.specs.Checks.{first}
 use Rattle.refusals.proofs.CheckLaws.{first-zero}
 use Rattle.packet.specs.Layout.{size_of}
@@ -30,7 +29,7 @@ use Rattle.std.specs.Prelude.{None, Some}
 use Rattle.gather.specs.declared.Reader.{Reader}
 use Rattle.gather.proofs.RefusalLaws.{carriage-taken, payload-in}
 use Rattle.gather.proofs.EnterLaws.{rule-kept}
-use Rattle.gather.proofs.JoinLaws.{passes, joins-short, joins-good}
+use Rattle.gather.proofs.JoinLaws.{longer, passes, joins-short, joins-good}
 use Rattle.gather.proofs.GatherLaws.{brings-plain}
 use Rattle.gather.proofs.StateLaws.{rule-cases}
 
@@ -121,9 +120,6 @@ module _ (count : ℕ) (h : Hand) where
     plain_end d w = stage-end d w
 
 -- ---- the gathering buffer stays as long
-
-longer : (at : ℕ) (p l : List ℕ) → at ≤ length l → length l ≤ length (overlay at p l)
-longer at p l h = rw (overlay-is at p l) (simp (length-append, length-take-le at l h, length-drop) (omega arith))
 
 pub taken-room : (s : Reader) (t g o : List ℕ) → length g ≤ length (taken_of s t g o).gathering
 unfolding taken_of

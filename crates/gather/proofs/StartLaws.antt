@@ -18,9 +18,8 @@ use Rattle.packet.specs.Cut.{Cut, cut, joined}
 use Rattle.packet.proofs.CutLaws.{cut-cuts, joined-append}
 use Rattle.gather.specs.Rules.{none, Hand, misfits, up_to_start, unfinished, from_start}
 use Rattle.gather.specs.Gather.{joiners}
-use Rattle.gather.specs.Phases.{misfits_in, numbers, hand_of, AfterStage, led_of, with_start_of, AfterStart, followed_of}
-use Rattle.gather.specs.declared.Numbers.{Numbers}
-use Rattle.gather.proofs.JoinLaws.{Small, front, front-small}
+use Rattle.gather.specs.Phases.{Numbers, misfits_in, unfinished_in, numbers, hand_of, InHand, Ready, led_of, with_start_of, followed_of}
+use Rattle.gather.proofs.JoinLaws.{longer, Small, front, front-small}
 
 -- ---- the stages from the start on, on numbers
 
@@ -34,7 +33,7 @@ pub from-start-packets : (l : List ℕ) (f : Hand) → (from_start l f).packets 
 unfolding from_start
 from-start-packets l f = cases (cut l).bad (λ b. rw b) (λ b. rw b)
 
-module _ (l : List ℕ) (f : Hand) (o : List ℕ) where
+module _ (l : List ℕ) (f : Hand) (g o : List ℕ) where
   abbrev ps : List (List ℕ)
   ps = (cut l).packets
 
@@ -46,7 +45,8 @@ module _ (l : List ℕ) (f : Hand) (o : List ℕ) where
       overlay-next 0 (joined f.packets) (joined ps) o (length (joined f.packets)) (zero-add (length (joined f.packets))) (omega arith)
       ∙ ap (λ (x : List ℕ). overlay 0 x o) (sym (joined-append f.packets ps))
 
-  pub from-start-numbers : followed_of (numbers f) l (overlay 0 (joined f.packets) o) ≡ record { held = numbers (from_start l f); output = overlay 0 (joined (from_start l f).packets) o }
+  pub from-start-numbers : followed_of l (record { held = numbers f; gathering = g; output = overlay 0 (joined f.packets) o })
+      ≡ record { held = numbers (from_start l f); gathering = g; output = overlay 0 (joined (from_start l f).packets) o }
   unfolding followed_of from_start
   from-start-numbers =
       cases (cut l).bad
@@ -81,55 +81,55 @@ module _ (l : List ℕ) (f : Hand) where
 
 -- ---- the whole, as the code goes
 
-module _ (e : Numbers) (g o d l : List ℕ) (first : Numbers) (g1 o1 : List ℕ)
-    (led : record { held = first; gathering = g1; output = o1 } ≡ led_of e d g o) (begun : Numbers)
-    (dropped : begun ≡ cond (eqb first.waiting 0) first (misfits_in first)) where
+-- b is in hand as they begin, c behind the first of them, and s once an unfinished packet is dropped
+module _ (b : InHand) (d l : List ℕ) (c : InHand) (led : c ≡ led_of d b) (s : InHand)
+    (dropped : s ≡ record { held = unfinished_in c.held; gathering = c.gathering; output = c.output }) where
   abbrev f : Hand
-  f = up_to_start d (hand_of e g)
+  f = up_to_start d (hand_of b.held b.gathering)
 
-  first-is : first ≡ numbers f
-  unfolding led_of
-  first-is = ap (λ (x : AfterStage). x.held) led
+  abbrev u : Hand
+  u = unfinished f
 
-  g1-is : g1 ≡ overlay e.waiting (joiners d (hand_of e g)) g
-  unfolding led_of
-  g1-is = ap (λ (x : AfterStage). x.gathering) led
+  stored : List ℕ
+  stored = overlay b.held.waiting (joiners d (hand_of b.held b.gathering)) b.gathering
 
-  o1-is : o1 ≡ overlay 0 (joined f.packets) o
-  unfolding led_of
-  o1-is = ap (λ (x : AfterStage). x.output) led
+  c-is : c ≡ record { held = numbers f; gathering = stored; output = overlay 0 (joined f.packets) b.output }
+  unfolding led_of stored
+  c-is = led
 
-  begun-is : begun ≡ numbers (unfinished f)
-  begun-is = dropped ∙ rw first-is (unfinished-numbers f)
+  s-is : s ≡ record { held = numbers u; gathering = stored; output = overlay 0 (joined u.packets) b.output }
+  s-is =
+      dropped
+      ∙ ap (λ (x : InHand). record { held = unfinished_in x.held; gathering = x.gathering; output = x.output }) c-is
+      ∙ (λ i. record { held = unfinished-numbers f i; gathering = stored; output = overlay 0 (joined (sym (unfinished-packets f) i)) b.output })
 
-  pub begun-small : Bytes g → Bytes d → (begun.packets ≤ 1) × (begun.bytes ≤ 8202)
-  begun-small bg bd =
-      let s : Small f.packets = front-small (bytes-append (take e.waiting g) d (bytes_take e.waiting g bg) bd) (front d (hand_of e g) refl) in
-      rw (begun-is, unfinished-packets f) (s.number, s.bytes)
+  pub begun-small : Ready b → Bytes d → (s.held.packets ≤ 1) × (s.held.bytes ≤ 8202)
+  begun-small ready bd =
+      let k : Small f.packets = front-small (bytes-append (take b.held.waiting b.gathering) d (bytes_take b.held.waiting b.gathering ready.bytes) bd) (front d (hand_of b.held b.gathering) refl) in
+      rw (s-is, unfinished-packets f) (k.number, k.bytes)
 
-  module _ (r : Numbers) (o2 : List ℕ) (went : record { held = r; output = o2 } ≡ followed_of begun l o1) where
+  pub still-spacious : length b.output ≤ length s.output
+  still-spacious = rw s-is (longer 0 (joined u.packets) b.output (omega arith))
+
+  module _ (k : InHand) (went : k ≡ followed_of l s) where
     abbrev h : Hand
-    h = from_start l (unfinished f)
+    h = from_start l u
 
-    on : ◌≡◌ {A = AfterStart} (record { held = r; output = o2 }) (record { held = numbers h; output = overlay 0 (joined h.packets) o })
-    on =
-        went
-        ∙ ap₂ (λ (x : Numbers) (m : List ℕ). followed_of x l m) begun-is (o1-is ∙ ap (λ (x : List (List ℕ)). overlay 0 (joined x) o) (sym (unfinished-packets f)))
-        ∙ from-start-numbers l (unfinished f) o
+    k-is : k ≡ record { held = numbers h; gathering = stored; output = overlay 0 (joined h.packets) b.output }
+    k-is = went ∙ ap (followed_of l) s-is ∙ from-start-numbers l u stored b.output
 
-    r-is : r ≡ numbers h
-    r-is = ap (λ (x : AfterStart). x.held) on
+    pub left-few : k.held.waiting ≤ length l
+    left-few = rw k-is (waits-few l u)
 
-    pub left-few : r.waiting ≤ length l
-    left-few = rw r-is (waits-few l (unfinished f))
+    pub still-roomy : Ready b → length b.gathering ≤ length k.gathering
+    unfolding stored
+    still-roomy ready =
+        rw k-is (longer b.held.waiting (joiners d (hand_of b.held b.gathering)) b.gathering (omega (arith, ready.entered.few, ready.roomy)))
 
     -- what is left of l waits
-    pub left-is : drop (length l - r.waiting) l ≡ h.waiting
-    left-is = rw r-is (waits_there l (unfinished f))
-
-    pub with-start : (g2 : List ℕ) → g2 ≡ overlay 0 (drop (length l - r.waiting) l) g1
-        → record { held = r; gathering = g2; output = o2 } ≡ with_start_of e d l g o
-    unfolding with_start_of
-    with-start g2 q =
-        let k : g2 ≡ overlay 0 h.waiting g1 = q ∙ ap (λ (x : List ℕ). overlay 0 x g1) left-is in
-        rw (k, g1-is, r-is, ap (λ (x : AfterStart). x.output) on)
+    pub with-start : (after : List ℕ) → after ≡ overlay 0 (drop (length l - k.held.waiting) l) k.gathering
+        → record { held = k.held; gathering = after; output = k.output } ≡ with_start_of d l b
+    unfolding with_start_of stored
+    with-start after q =
+        let there = rw (k-is, waits_there l u) at q in
+        rw (there, k-is)

@@ -2,7 +2,7 @@
 // out. The rules are those of specs/Rules.antt, stage by stage.
 #![tactic(auto)]
 
-ghost use Rattle.std.specs.Prelude.{◌≡◌, true, cond, eqb, ◌++◌, ◌+◌, ◌≤◌, ◌<◌, length, get_or, Ok, IfOk};
+ghost use Rattle.std.specs.Prelude.{◌≡◌, true, cond, eqb, ◌++◌, ◌+◌, ◌≤◌, ◌<◌, length, take, get_or, Ok, IfOk};
 ghost use Rattle.refusals.specs.Checks.{first};
 ghost use Rattle.refusals.specs.Answers.{code};
 ghost use Rattle.packet.specs.Layout.{size_of};
@@ -10,10 +10,11 @@ ghost use Rattle.transport.specs.Look.{stands_in, seen_told};
 ghost use Rattle.gather.specs.State.{start_of, started_told, count_over, unfit, gather_checks};
 ghost use Rattle.gather.specs.Rules.{out_of_turn, reaches, rule_one};
 ghost use Rattle.gather.specs.Gather.{in_hand, gather_of, gathered_told};
-ghost use Rattle.gather.specs.Phases.{dropped_in, lost_in, misfits_in, crc_fails_in, waits_in, hands_out_in, answer_by, numbers, Ready, led_of, with_start_of, followed_of};
+ghost use Rattle.gather.specs.Phases.{drops_in, lost_in, misfits_in, crc_fails_in, waits_in, hands_out_in, answer_by, unfinished_in, numbers, Ready, held_of, in_hand_of, Step, Stage, lays_out_of, led_of, with_start_of, followed_of};
 
 use packet::Flaw;
 use refusals::Refusal;
+use std::mem;
 use transport::Looked;
 
 // A reader's state between two calls: its PID, the last count taken, whether it is in step, and how many bytes wait in the
@@ -42,14 +43,17 @@ pub struct Gathered {
     pub marks: Marks,
 }
 
-// The numbers of what a call has in hand between two stages.
-#[derive(Clone, Copy)]
-struct Numbers {
+// What a call has in hand between two stages: whether it is in step, how many bytes wait in the gathering buffer, how much
+// is handed out in the output, the marks, and these two lent buffers.
+#[derive(Drop)]
+struct Hand<'g, 'o> {
     in_step: bool,
     waiting: usize,
     bytes: usize,
     packets: usize,
     marks: Marks,
+    gathering: &'g mut [u8],
+    output: &'o mut [u8],
 }
 
 // Byte k of the bytes that wait, with those of d behind them; 0 past these.
@@ -92,160 +96,152 @@ fn out_of_turn(last: Option<u8>, count: u8) -> bool
     last.is_some_and(|n| count as usize != (n as usize + 1) % 16)
 }
 
-// The steps of specs/Rules.antt, on numbers: the three that set a mark, and those that set none.
-impl Numbers {
-    // Out of step with nothing waiting, under these marks.
-    fn dropped(self, marks: Marks) -> Numbers
-        ensures { result ≡ dropped_in marks self }
+// The steps and stages of specs/Rules.antt.
+impl Hand<'_, '_> {
+    // Out of step with nothing waiting.
+    fn drops(&mut self)
+        ensures { Step drops_in self.old self.new }
     {
-        Numbers {
-            in_step: false,
-            waiting: 0, // what waited is dropped
-            marks,
-            ..self
-        }
+        self.in_step = false;
+        self.waiting = 0; // what waited is dropped
     }
 
-    fn lost(self) -> Numbers
-        ensures { result ≡ lost_in self }
+    fn lost(&mut self)
+        ensures { Step lost_in self.old self.new }
     {
-        self.dropped(Marks {
-            loss: true,
-            ..self.marks
-        })
+        self.marks.loss = true;
+        self.drops();
     }
 
-    fn misfits(self) -> Numbers
-        ensures { result ≡ misfits_in self }
+    fn misfits(&mut self)
+        ensures { Step misfits_in self.old self.new }
     {
-        self.dropped(Marks {
-            misfit: true,
-            ..self.marks
-        })
+        self.marks.misfit = true;
+        self.drops();
     }
 
-    fn crc_fails(self) -> Numbers
-        ensures { result ≡ crc_fails_in self }
+    fn crc_fails(&mut self)
+        ensures { Step crc_fails_in self.old self.new }
     {
-        self.dropped(Marks {
-            crc: true,
-            ..self.marks
-        })
+        self.marks.crc = true;
+        self.drops();
     }
 
-    fn waits(self, n: usize) -> Numbers
-        ensures { result ≡ waits_in n self }
+    fn waits(&mut self, n: usize)
+        ensures { Step (waits_in n) self.old self.new }
     {
-        Numbers {
-            in_step: true,
-            waiting: n,
-            ..self
-        }
+        self.in_step = true;
+        self.waiting = n;
     }
 
     // A packet of n bytes.
-    fn hands_out(self, n: usize) -> Numbers
-        requires { (self.bytes + n < 65536) × (self.packets < 65536) }
-        ensures { result ≡ hands_out_in n self }
+    fn hands_out(&mut self, n: usize)
+        requires { (self.old.bytes + n < 65536) × (self.old.packets < 65536) }
+        ensures { Step (hands_out_in n) self.old self.new }
     {
-        Numbers {
-            waiting: 0,
-            bytes: self.bytes + n,
-            packets: self.packets + 1,
-            ..self
-        }
+        self.waiting = 0;
+        self.bytes += n;
+        self.packets += 1;
     }
 
     // Drops a packet that is unfinished where another starts.
-    fn unfinished(self) -> Numbers
-        ensures { result ≡ cond (eqb self.waiting 0) self (misfits_in self) }
+    fn unfinished(&mut self)
+        ensures { Step unfinished_in self.old self.new }
     {
-        if self.waiting == 0 {
-            return self;
+        if self.waiting != 0 {
+            self.misfits();
         }
-        self.misfits()
     }
-}
 
-// Rules 2 to 4 where bytes wait: those of d join them, up to the packet's own length.
-fn join(d: &[u8], e: Numbers, gathering: &mut [u8], output: &mut [u8]) -> Numbers
-    requires { Ready e gathering.old output.old × (e.in_step ≡ true) × (0 < e.waiting) × (length d.now ≤ 188) }
-    ensures { record { held = result; gathering = gathering.new; output = output.new } ≡ led_of e d.now gathering.old output.old }
-{
-    let w = e.waiting;
-    let all = w + d.len();
-    let size = joined_length(&gathering[..w], d);
-    if all < size {
-        fields::copy(gathering, w, d.len(), d, 0);
-        return e.waits(all);
+    // The first n bytes of the gathering buffer.
+    fn front(&self, n: usize) -> &[u8]
+        requires { n ≤ length self.now.gathering.now }
+        ensures { result.now ≡ take n self.now.gathering.now }
+    {
+        &self.gathering[..n]
     }
-    let used = size - w;
-    fields::copy(gathering, w, used, d, 0);
-    if !crc::holds(&gathering[..size]) {
-        return e.crc_fails();
-    }
-    fields::copy(output, 0, size, gathering, 0);
-    let handed = e.hands_out(size);
-    if size < all {
-        return handed.misfits();
-    }
-    handed
-}
 
-// Rules 2 to 4 up to the start, or to the end where there is none, for the bytes of d.
-fn lead(d: &[u8], e: Numbers, gathering: &mut [u8], output: &mut [u8]) -> Numbers
-    requires { Ready e gathering.old output.old × (length d.now ≤ 188) }
-    ensures { record { held = result; gathering = gathering.new; output = output.new } ≡ led_of e d.now gathering.old output.old }
-{
-    if !e.in_step {
-        return e;
+    // Copies the first n bytes of the gathering buffer to the front of the output.
+    fn lays_out(&mut self, n: usize)
+        ensures { Stage (lays_out_of n) self.old self.new }
+    {
+        let gathering = mem::take(&mut self.gathering); // as both are lent at once
+        fields::copy(self.output, 0, n, gathering, 0);
+        self.gathering = gathering;
     }
-    if e.waiting != 0 {
-        return join(d, e, gathering, output);
-    }
-    if d.is_empty() {
-        return e;
-    }
-    e.misfits()
-}
 
-// From the start on, packet after packet by their own lengths.
-fn follow(onward: &[u8], h: Numbers, output: &mut [u8]) -> Numbers
-    requires { (length onward.now ≤ 183) × (h.packets ≤ 1) × (h.bytes ≤ 8202) × (h.bytes + length onward.now ≤ length output.old) }
-    ensures { record { held = result; output = output.new } ≡ followed_of h onward.now output.old }
-{
-    let mut held = h;
-    let mut rest = onward;
-    // Not over packet::Packets: what is left behind the good packets waits, and the iterator keeps that to itself.
-    loop {
-        match packet::judge(rest) {
-            Err(Flaw::Short) => return held.waits(rest.len()),
-            Err(Flaw::Bad) => return held.crc_fails(),
-            Ok(size) => {
-                fields::copy(output, held.bytes, size, rest, 0);
-                held = held.hands_out(size);
-                rest = &rest[size..];
+    // Rules 2 to 4 where bytes wait: those of d join them, up to the packet's own length.
+    fn join(&mut self, d: &[u8])
+        requires { Ready (in_hand_of self.old) × (self.old.in_step ≡ true) × (0 < self.old.waiting) × (length d.now ≤ 188) }
+        ensures { Stage (led_of d.now) self.old self.new }
+    {
+        let w = self.waiting;
+        let all = w + d.len();
+        let size = joined_length(self.front(w), d);
+        if all < size {
+            fields::copy(self.gathering, w, d.len(), d, 0);
+            return self.waits(all);
+        }
+        let used = size - w;
+        fields::copy(self.gathering, w, used, d, 0);
+        let packet = self.front(size);
+        if !crc::holds(packet) {
+            return self.crc_fails();
+        }
+        self.lays_out(size);
+        self.hands_out(size);
+        if size < all {
+            self.misfits();
+        }
+    }
+
+    // Rules 2 to 4 up to the start, or to the end where there is none, for the bytes of d.
+    fn lead(&mut self, d: &[u8])
+        requires { Ready (in_hand_of self.old) × (length d.now ≤ 188) }
+        ensures { Stage (led_of d.now) self.old self.new }
+    {
+        if !self.in_step {
+            return;
+        }
+        if self.waiting != 0 {
+            return self.join(d);
+        }
+        if !d.is_empty() {
+            self.misfits();
+        }
+    }
+
+    // From the start on, packet after packet by their own lengths.
+    fn follow(&mut self, onward: &[u8])
+        requires { (length onward.now ≤ 183) × (self.old.packets ≤ 1) × (self.old.bytes ≤ 8202) × (self.old.bytes + length onward.now ≤ length self.old.output.now) }
+        ensures { Stage (followed_of onward.now) self.old self.new }
+    {
+        let mut rest = onward;
+        // Not over packet::Packets: what is left behind the good packets waits, and the iterator keeps that to itself.
+        loop {
+            match packet::judge(rest) {
+                Err(Flaw::Short) => return self.waits(rest.len()),
+                Err(Flaw::Bad) => return self.crc_fails(),
+                Ok(size) => {
+                    fields::copy(self.output, self.bytes, size, rest, 0);
+                    self.hands_out(size);
+                    rest = &rest[size..];
+                }
             }
         }
     }
-}
 
-// Rules 3 and 4 with a start: the bytes before it, and those from it on.
-fn with_start(
-    before: &[u8],
-    onward: &[u8],
-    e: Numbers,
-    gathering: &mut [u8],
-    output: &mut [u8],
-) -> Numbers
-    requires { Ready e gathering.old output.old × (length before.now ≤ 188) × (length onward.now ≤ 183) }
-    ensures { record { held = result; gathering = gathering.new; output = output.new } ≡ with_start_of e before.now onward.now gathering.old output.old }
-{
-    let front = lead(before, e, gathering, output);
-    let held = follow(onward, front.unfinished(), output);
-    let waits = held.waiting;
-    fields::copy(gathering, 0, waits, onward, onward.len() - waits);
-    held
+    // Rules 3 and 4 with a start: the bytes before it, and those from it on.
+    fn with_start(&mut self, before: &[u8], onward: &[u8])
+        requires { Ready (in_hand_of self.old) × (length before.now ≤ 188) × (length onward.now ≤ 183) }
+        ensures { Stage (with_start_of before.now onward.now) self.old self.new }
+    {
+        self.lead(before);
+        self.unfinished();
+        self.follow(onward);
+        let waits = self.waiting;
+        fields::copy(self.gathering, 0, waits, onward, onward.len() - waits);
+    }
 }
 
 impl Reader {
@@ -299,37 +295,40 @@ impl Reader {
     }
 
     // Rule 1.
-    fn enter(self, count: u8, gathering: &[u8]) -> Numbers
-        requires { self.waiting ≤ length gathering.now }
-        ensures { result ≡ numbers (rule_one self.last count (in_hand self gathering.now)) }
+    fn enter<'g, 'o>(self, count: u8, gathering: &'g mut [u8], output: &'o mut [u8]) -> Hand<'g, 'o>
+        requires { self.waiting ≤ length gathering.old }
+        ensures same_gathering { result.gathering.ghost_name ≡ gathering.entry.ghost_name }
+        ensures same_output { result.output.ghost_name ≡ output.entry.ghost_name }
+        ensures holds { in_hand_of result ≡ record { held = numbers (rule_one self.last count (in_hand self gathering.old)); gathering = gathering.old; output = output.old } }
     {
-        let held = Numbers {
+        let mut hand = Hand {
             in_step: self.in_step,
             waiting: self.waiting,
             bytes: 0,
             packets: 0, // nothing is handed out yet
             marks: Marks::default(),
+            gathering,
+            output,
         };
         if out_of_turn(self.last, count) {
-            return held.lost();
+            hand.lost();
+        } else if reached(hand.front(self.waiting)) {
+            hand.misfits();
         }
-        if reached(&gathering[..self.waiting]) {
-            return held.misfits();
-        }
-        held
+        hand
     }
 
     // Takes over what an accepted call has in hand at its end.
-    fn settle(&mut self, count: u8, held: Numbers) -> Gathered
-        ensures { gathered_told self.new (Ok result) ≡ answer_by self.old.pid count held }
+    fn settle(&mut self, count: u8, hand: &Hand) -> Gathered
+        ensures { gathered_told self.new (Ok result) ≡ answer_by self.old.pid count (held_of hand.now) }
     {
         self.last = Some(count);
-        self.in_step = held.in_step;
-        self.waiting = held.waiting;
+        self.in_step = hand.in_step;
+        self.waiting = hand.waiting;
         Gathered {
-            bytes: held.bytes,
-            packets: held.packets,
-            marks: held.marks,
+            bytes: hand.bytes,
+            packets: hand.packets,
+            marks: hand.marks,
         }
     }
 
@@ -344,14 +343,14 @@ impl Reader {
         ensures { record { answer = gathered_told self.new result; gathering = gathering.new; output = output.new } ≡ gather_of self.old transport.now gathering.old output.old }
     {
         let seen = self.check(transport, gathering.len(), output.len())?;
-        let entered = self.enter(seen.count, gathering);
-        let held = match seen.pointer {
+        let mut hand = self.enter(seen.count, gathering, output);
+        match seen.pointer {
             Some(pointer) => {
                 let (before, onward) = transport[seen.payload + 1..].split_at(pointer as usize);
-                with_start(before, onward, entered, gathering, output)
+                hand.with_start(before, onward);
             }
-            None => lead(&transport[seen.payload..], entered, gathering, output),
-        };
-        Ok(self.settle(seen.count, held))
+            None => hand.lead(&transport[seen.payload..]),
+        }
+        Ok(self.settle(seen.count, &hand))
     }
 }

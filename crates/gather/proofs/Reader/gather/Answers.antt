@@ -1,23 +1,25 @@
 -- `gather::Reader::gather` meets its contract: past the refusals each stage's contract speaks of what the one before it left,
 -- and the lengths that were judged give each its room.
+use borrow.Author.Rules.{rules}
 use lib.ListN.{length, take, drop, length-drop}
 use mathlib.Core.Path.{◌≡◌, sym, ap, ◌∙◌}
 use mathlib.Core.Bool.{true}
 use mathlib.Core.List.{List}
 use Prim.Native.Nat.{ℕ, ◌+◌, ◌-◌, ◌≤◌, ◌<◌}
 use native.Mathlib.Omega.{arith}
-use Rattle.std.specs.Prelude.{Some, is_some}
+use Rattle.std.specs.Prelude.{Some, Ok, is_some}
+use Rattle.fields.specs.Numbers.{Bytes}
 use Rattle.transport.specs.Header.{count_of, starts, payload_at, pointer_of}
 use Rattle.transport.specs.Look.{Looked}
-use Rattle.gather.specs.Rules.{rule_one}
-use Rattle.gather.specs.Gather.{in_hand}
-use Rattle.gather.specs.Phases.{numbers, Ready}
+use Rattle.gather.specs.Rules.{Hand, rule_one}
+use Rattle.gather.specs.Gather.{in_hand, gathered_told, taken_of, gather_of}
+use Rattle.gather.specs.Phases.{numbers, Ready, in_hand_of}
 use Rattle.gather.proofs.RefusalLaws.{Passed, passed, fit_parts, payload-from, payload-in, start-in}
 use Rattle.gather.proofs.EnterLaws.{Stands, rule-stands}
 use Rattle.gather.proofs.StartLaws.{from_on}
 use Rattle.gather.proofs.GatherLaws.{gather-exit, gather-taken, taken_start, taken-plain}
 use Rattle.gather.proofs.Reader.gather.Goals as goal
-use Rattle.gather.proofs.Reader.gather.Goals.{After-enter-entered, In_ok-seen, In-Some, in-Some, in-None}
+use Rattle.gather.proofs.Reader.gather.Goals.{After-enter-hand, In_ok-seen, In-Some, in-Some, in-None}
 
 -- nothing was refused
 free : (k : In_ok-seen) → Passed k.args.self.now k.args.transport.now (length k.args.gathering.now) (length k.args.output.now)
@@ -61,26 +63,34 @@ onward : (n : ℕ) (t : List ℕ) → length (take (length t - n) (drop n t)) �
 onward n t = ap length (from_on n t) ∙ length-drop n t
 
 -- what rule 1 left, and the room
-entered : (m : After-enter-entered) → Stands m.enter-entered.result m.args.gathering.now (rule_one m.args.self.now.last (count_of m.args.transport.now) (in_hand m.args.self.now m.args.gathering.now))
-entered m =
-    let k = (goal.at.After-enter-entered m).In_ok-seen in
-    let a = m.args in
-    rw (m.enter-entered.ensures ∙ ap (λ (n : ℕ). numbers (rule_one a.self.now.last n (in_hand a.self.now a.gathering.now))) (count-is k))
-    (rule-stands a.self.now (count_of a.transport.now) a.gathering.now (few k) (free k).roomy)
+abbrev left : After-enter-hand → Hand
+left m = rule_one m.args.self.now.last (count_of m.args.transport.now) (in_hand m.args.self.now m.args.gathering.now)
 
-ready : (m : After-enter-entered) → Ready m.enter-entered.result m.args.gathering.now m.args.output.now
-ready m =
-    let k = (goal.at.After-enter-entered m).In_ok-seen in
-    record { entered = (entered m).entered; roomy = (free k).roomy; spacious = (free k).spacious }
+stands : (m : After-enter-hand) → Stands (numbers (left m)) m.args.gathering.now (left m)
+stands m =
+    let k = (goal.at.After-enter-hand m).In_ok-seen in
+    rule-stands m.args.self.now (count_of m.args.transport.now) m.args.gathering.now (few k) (free k).roomy
+
+entered : (m : After-enter-hand) → in_hand_of m.enter-hand.result ≡ record { held = numbers (left m); gathering = m.args.gathering.now; output = m.args.output.now }
+entered m =
+    let k = (goal.at.After-enter-hand m).In_ok-seen in
+    let a = m.args in
+    m.enter-hand.ensures.holds
+    ∙ ap (λ (n : ℕ). record { held = numbers (rule_one a.self.now.last n (in_hand a.self.now a.gathering.now)); gathering = a.gathering.now; output = a.output.now }) (count-is k)
+
+ready : (m : After-enter-hand) → Bytes m.args.gathering.now → Ready (in_hand_of m.enter-hand.result)
+ready m b =
+    let k = (goal.at.After-enter-hand m).In_ok-seen in
+    rw (entered m) (record { entered = (stands m).entered; roomy = (free k).roomy; spacious = (free k).spacious; bytes = b })
 
 pub returns-in_err-seen : goal.returns-in_err-seen
 returns-in_err-seen c =
     let a = c.args in
     gather-exit a.self.now a.transport.now a.gathering.now a.output.now c.from_residual.result _ c.from_residual.ensures.1 c.in_err-seen.ensures.0
 
-pub enter-entered-requires : goal.enter-entered-requires
-enter-entered-requires c =
-    let k = (goal.at.enter-entered-requires c).In_ok-seen in
+pub enter-hand-requires : goal.enter-hand-requires
+enter-hand-requires c =
+    let k = (goal.at.enter-hand-requires c).In_ok-seen in
     omega (arith, few k, (free k).roomy)
 
 pub overflow_add-seen : goal.overflow_add-seen
@@ -97,14 +107,14 @@ split_at-requires c =
     let q = (goal.at.split_at-requires c).In-Some in
     omega (arith, onward (c.in_ok-seen.seen.payload + 1) c.args.transport.now, pointed q)
 
-pub with_start-held-requires : goal.with_start-held-requires
-with_start-held-requires c =
-    let q = (goal.at.with_start-held-requires c).In-Some in
+pub with_start-requires : goal.with_start-requires
+with_start-requires c =
+    let q = (goal.at.with_start-requires c).In-Some in
     let k = (goal.at.In-Some q).In_ok-seen in
     let n = onward (c.in_ok-seen.seen.payload + 1) c.args.transport.now in
     let f = c.split_at.ensures.front_len in
     let b = c.split_at.ensures.back_len in
-    (ready (goal.at.with_start-held-requires c).After-enter-entered, omega (arith, f, pointed q, (free k).whole), omega (arith, b, n, pointed q, place k, (free k).whole))
+    (ready (goal.at.with_start-requires c).After-enter-hand (search rules), omega (arith, f, pointed q, (free k).whole), omega (arith, b, n, pointed q, place k, (free k).whole))
 
 pub slice_bounds-lead-count : goal.slice_bounds-lead-count
 slice_bounds-lead-count c =
@@ -116,27 +126,41 @@ slice_bounds-lead-start c =
     let k = (goal.at.slice_bounds-lead-start c).In_ok-seen in
     omega (arith, place k, (free k).whole)
 
-pub lead-held-requires : goal.lead-held-requires
-lead-held-requires c =
-    let k = (goal.at.lead-held-requires c).In_ok-seen in
-    (ready (goal.at.lead-held-requires c).After-enter-entered, omega (arith, onward c.in_ok-seen.seen.payload c.args.transport.now, (free k).whole))
+pub lead-requires : goal.lead-requires
+lead-requires c =
+    let k = (goal.at.lead-requires c).In_ok-seen in
+    (ready (goal.at.lead-requires c).After-enter-hand (search rules), omega (arith, onward c.in_ok-seen.seen.payload c.args.transport.now, (free k).whole))
 
 pub returns : goal.returns
 returns c =
     let k = (goal.at.returns c).In_ok-seen in
-    let m = (goal.at.returns c).After-enter-entered in
+    let m = (goal.at.returns c).After-enter-hand in
     let a = c.args in
     let n = c.in_ok-seen.seen.payload in
+    let h = c.match-seen.hand in
+    let same_gathering : h.gathering.ghost_name ≡ _ =
+    elim c.match-seen.branch [
+      | in-Some w ↦ ap (λ x. x.gathering.ghost_name) w.hand-is ∙ w.with_start.ensures.0 ∙ m.enter-hand.ensures.same_gathering
+      | in-None w ↦ ap (λ x. x.gathering.ghost_name) w.hand-is ∙ w.lead.ensures.0 ∙ m.enter-hand.ensures.same_gathering
+    ] in
+    let same_output : h.output.ghost_name ≡ _ =
+    elim c.match-seen.branch [
+      | in-Some w ↦ ap (λ x. x.output.ghost_name) w.hand-is ∙ w.with_start.ensures.1 ∙ m.enter-hand.ensures.same_output
+      | in-None w ↦ ap (λ x. x.output.ghost_name) w.hand-is ∙ w.lead.ensures.1 ∙ m.enter-hand.ensures.same_output
+    ] in
+    let told : record { answer = gathered_told c.settle.new.self (Ok c.settle.result); gathering = h.gathering.now; output = h.output.now } ≡ taken_of a.self.now a.transport.now a.gathering.now a.output.now =
     elim c.match-seen.branch [
       | in-Some w ↦
           (let p = w.in-Some.pointer in
           let there = from_on (n + 1) a.transport.now in
-          taken_start a.self.now a.transport.now a.gathering.now a.output.now c.enter-entered.result (entered m) c.match-seen.held c.match-seen.gathering c.match-seen.output _ n c.in_ok-seen.seen.count (payload-is k) (count-is k) c.settle.ensures
+          taken_start a.self.now a.transport.now a.gathering.now a.output.now (stands m) _ (entered m) (in_hand_of h) _ n c.in_ok-seen.seen.count (payload-is k) (count-is k) c.settle.ensures
           (begun k p w.in-Some.is) p (pointer_is k p w.in-Some.is) _ _ (w.split_at.ensures.front ∙ ap (take p) there) (w.split_at.ensures.back ∙ ap (drop p) there)
-          ((λ i. record { held = w.held-is i; gathering = w.gathering-is i; output = w.output-is i }) ∙ w.with_start-held.ensures))
+          (ap in_hand_of w.hand-is ∙ w.with_start.ensures.2))
       | in-None w ↦
-          taken-plain a.self.now a.transport.now a.gathering.now a.output.now c.enter-entered.result (entered m) c.match-seen.held c.match-seen.gathering c.match-seen.output _ n c.in_ok-seen.seen.count (payload-is k) (count-is k) c.settle.ensures
-          (sym (rw w.in-None.is at (begins-is k))) (omega (arith, few k, (ready m).entered.few, (free k).roomy)) _ (from_on n a.transport.now)
-          ((λ i. record { held = w.held-is i; gathering = w.gathering-is i; output = w.output-is i }) ∙ w.lead-held.ensures)
-    ]
-    ∙ sym (gather-taken a.self.now a.transport.now a.gathering.now a.output.now (sym c.in_ok-seen.ensures.0))
+          taken-plain a.self.now a.transport.now a.gathering.now a.output.now (stands m) _ (entered m) (in_hand_of h) _ n c.in_ok-seen.seen.count (payload-is k) (count-is k) c.settle.ensures
+          (sym (rw w.in-None.is at (begins-is k))) (rw (stands m).long (omega (arith, (stands m).entered.few, (free k).roomy))) _ (from_on n a.transport.now)
+          (ap in_hand_of w.hand-is ∙ w.lead.ensures.2)
+    ] in
+    let e : record { answer = gathered_told c.settle.new.self (Ok c.settle.result); gathering = h.gathering.now; output = h.output.now } ≡ gather_of a.self.now a.transport.now a.gathering.now a.output.now =
+    told ∙ sym (gather-taken a.self.now a.transport.now a.gathering.now a.output.now (sym c.in_ok-seen.ensures.0)) in
+    search rules
