@@ -71,6 +71,7 @@ pub fn holds(bytes: &[u8]) -> bool
 }
 
 // Lays the CRC of the first n bytes of out behind them, top byte first; nothing where it has no room.
+// A length beside the slice: docs/STATEMENTS.md has this for any n.
 #[tactic(auto, unfolding(crate::specs::Sealed::sealed_at))]
 pub fn seal(out: &mut [u8], n: usize)
     ensures { out.new ≡ sealed_at n out.old }

@@ -1,4 +1,5 @@
 // Numbers in bytes and parts of slices: the few functions that more than one crate needs. Each answers for any arguments.
+// A place and a length beside the slice: docs/STATEMENTS.md has each of these for any numbers.
 #![tactic(auto)]
 
 ghost use Rattle.std.specs.Prelude.{◌≡◌, ◌+◌, leb, get_or};
@@ -57,8 +58,7 @@ pub fn copy(dst: &mut [u8], at: usize, n: usize, src: &[u8], from: usize)
     if !within(from, n, src.len()) || !within(at, n, dst.len()) {
         return;
     }
-    // Here and in the crates above no `copy_from_slice` between lent slices: it calls memmove, and the static library needs
-    // memcpy and memset alone of C (include/sfn.h).
+    // A `for`, as in the crates above: copy_from_slice compiles to memmove, which sfn.h promises not to need.
     for (i, b) in src[from..from + n].iter().enumerate() {
         dst[at + i] = *b;
     }

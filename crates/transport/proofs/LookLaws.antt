@@ -1,13 +1,14 @@
 -- The laws of a look: what it answers by its length and by the first of 5 to 11.
 -- Assumes nothing.
 use mathlib.Core.Path.{◌≡◌, refl, sym, ap, ◌∙◌}
-use mathlib.Core.Bool.{true, false, cond}
+use mathlib.Core.Bool.{Bool, true, false, cond}
 use mathlib.Core.List.{List}
 use Prim.Native.Nat.{ℕ, ◌+◌}
 use native.Mathlib.Omega.{arith}
 use lib.Dec.{leb}
 use lib.ListN.{length}
-use Rattle.std.specs.Prelude.{Result, IsErrAnd, Some, None, is_some}
+use Rattle.std.specs.Prelude.{Result, IsErrAnd, Option, MatchOption, Some, None, is_some}
+use Rattle.std.specs.Bool.{then_some}
 use Rattle.fields.proofs.Cases.{cases}
 use borrow.Author.Tests.{eq-eqb, ne_eqb}
 use Rattle.refusals.specs.Checks.{first}
@@ -60,8 +61,12 @@ module _ (pid : ℕ) (t : List ℕ) where
 
 -- ---- what is read of a packet
 
+option_cases : {P : Type 0} (o : Option ℕ) → (o ≡ None → P) → ((p : ℕ) → o ≡ Some p → P) → P
+option_cases None none some = none refl
+option_cases (Some p) none some = some p refl
+
 -- field by field
-pub stands : (t : List ℕ) (s : given.Looked) → s.count ≡ count_of t → s.payload ≡ payload_at t → s.pointer ≡ cond (starts t) (Some (pointer_of t)) None
+pub stands : (t : List ℕ) (s : given.Looked) → s.count ≡ count_of t → s.payload ≡ payload_at t → s.pointer ≡ then_some (starts t) (pointer_of t)
     → seen_told s ≡ stands_in t
 stands t s n p q = rw (n, p, q) (cases (starts t) (λ b. rw b) (λ b. rw b))
 
@@ -73,11 +78,18 @@ module _ (t : List ℕ) (s : given.Looked) (e : seen_told s ≡ stands_in t) whe
   begins-is : is_some s.pointer ≡ starts t
   begins-is = ap (λ (x : Looked). x.begins) e
 
-  pub pointer-none : s.pointer ≡ None → pointer_beyond t ≡ false
+  pointer-none : s.pointer ≡ None → pointer_beyond t ≡ false
   pointer-none n = aims-nowhere t (sym begins-is ∙ rw n)
 
-  pub pointer-some : (p : ℕ) → s.pointer ≡ Some p → pointer_beyond t ≡ leb 188 (s.payload + 1 + p)
+  pointer-some : (p : ℕ) → s.pointer ≡ Some p → pointer_beyond t ≡ leb 188 (s.payload + 1 + p)
   pointer-some p n =
       let b : true ≡ starts t = rw n at begins-is in
       let q : p ≡ cond (starts t) (pointer_of t) 0 = rw n at (ap (λ (x : Looked). x.pointer) e) in
       aims-by t (sym b) s.payload p payload-is q
+
+  -- a judgement of the pointer, where there is one
+  pub pointer-judged : (b : Bool) → MatchOption s.pointer (b ≡ false) (λ p. b ≡ leb 188 (s.payload + 1 + p)) → b ≡ pointer_beyond t
+  pointer-judged b m =
+      option_cases s.pointer
+      (λ n. let z : b ≡ false = rw n at m in z ∙ sym (pointer-none n))
+      (λ p n. let z : b ≡ leb 188 (s.payload + 1 + p) = rw n at m in z ∙ sym (pointer-some p n))

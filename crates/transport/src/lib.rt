@@ -1,7 +1,7 @@
 // Transport packets, as far as the writer and the reader both know them.
 #![tactic(auto)]
 
-ghost use Rattle.std.specs.Prelude.{◌≡◌, cond, List, ℕ, ◌+◌, ◌≤◌, eqb, length, get_or, Option, Some, None};
+ghost use Rattle.std.specs.Prelude.{◌≡◌, cond, List, ℕ, ◌+◌, eqb, get_or};
 ghost use Rattle.refusals.specs.Checks.{first};
 ghost use Rattle.refusals.specs.Answers.{code};
 ghost use Rattle.transport.specs.Header.{head_of};
@@ -27,37 +27,26 @@ pub fn pid_outside(pid: u16) -> bool
 }
 
 // The header as one number.
-fn head_of(t: &[u8]) -> u32
-    requires { 4 ≤ length t.now }
+fn head_of(t: &[u8; 188]) -> u32
     ensures { result ≡ head_of t.now }
 {
     u32::from_be_bytes([t[0], t[1], t[2], t[3]])
 }
 
 // Where the payload begins, by the adaptation control: 01 payload alone, 10 a field alone, 11 both.
-fn payload_at(t: &[u8], control: u32) -> usize
-    requires { 5 ≤ length t.now }
+fn payload_at(t: &[u8; 188], control: u32) -> usize
     ensures { result ≡ cond (eqb control 3) (5 + get_or t.now 4 0) 4 }
 {
     if control == 3 {
-        return 5 + t[4] as usize;
+        return 5 + usize::from(t[4]);
     }
     4
 }
 
-// The payload's first byte, where a T2-MI packet begins.
-fn pointer_at(t: &[u8], begins: bool, payload: usize) -> Option<u8>
-    ensures { result ≡ cond begins (Some (get_or t.now payload 0)) None }
-{
-    if begins {
-        return Some(fields::byte_at(t, payload));
-    }
-    None
-}
-
 // All that is read of t, whose header is head. Each field lies as many bits from the header's end as those behind it take.
-fn read(t: &[u8], head: u32) -> Looked
-    requires { (head ≡ head_of t.now) × (5 ≤ length t.now) }
+// Where a T2-MI packet begins, the pointer is the payload's first byte.
+fn read(t: &[u8; 188], head: u32) -> Looked
+    requires { head ≡ head_of t.now }
     ensures { seen_told result ≡ stands_in t.now }
 {
     let begins = head / 0x40_0000 % 2 == 1;
@@ -65,7 +54,7 @@ fn read(t: &[u8], head: u32) -> Looked
     Looked {
         count: (head % 16) as u8,
         payload,
-        pointer: pointer_at(t, begins, payload),
+        pointer: begins.then_some(fields::byte_at(t, payload)),
     }
 }
 
@@ -80,7 +69,7 @@ fn check(head: u32, seen: Looked, pid: u16) -> Result<(), Refusal>
     if head / 0x80_0000 % 2 == 1 {
         return Err(Refusal::TransportErrorMarked);
     }
-    if head / 256 % 8192 != pid as u32 {
+    if head / 256 % 8192 != u32::from(pid) {
         return Err(Refusal::AnotherPid);
     }
     if head / 64 % 4 != 0 {
@@ -92,10 +81,10 @@ fn check(head: u32, seen: Looked, pid: u16) -> Result<(), Refusal>
     if 187 < seen.payload {
         return Err(Refusal::AdaptationFieldLong);
     }
-    let Some(pointer) = seen.pointer else {
-        return Ok(());
-    };
-    if 188 <= seen.payload + 1 + pointer as usize {
+    if seen
+        .pointer
+        .is_some_and(|p| 188 <= seen.payload + 1 + usize::from(p))
+    {
         return Err(Refusal::PointerBeyondPayload);
     }
     Ok(())
@@ -105,11 +94,11 @@ fn check(head: u32, seen: Looked, pid: u16) -> Result<(), Refusal>
 pub fn look(t: &[u8], pid: u16) -> Result<Looked, Refusal>
     ensures { look_told result ≡ look_of pid t.now }
 {
-    if t.len() != 188 {
+    let Some(whole) = t.as_array::<188>() else {
         return Err(Refusal::TransportNot188);
-    }
-    let head = head_of(t);
-    let seen = read(t, head);
+    };
+    let head = head_of(whole);
+    let seen = read(whole, head);
     check(head, seen, pid)?;
     Ok(seen)
 }

@@ -1,21 +1,24 @@
 -- `transport::check` meets its contract: a chain of early returns in the order of the definition's list, by the numbers of
 -- any transport packet that they were read of.
-use borrow.Author.Tests.{eq-eqb, ne_eqb, lt-leb, le-leb}
+use borrow.Author.Tests.{eq-eqb, ne_eqb}
 use mathlib.Core.Path.{◌≡◌, sym, ap, ◌∙◌}
-use mathlib.Core.Bool.{not}
+use mathlib.Core.Bool.{false, not}
+use borrow.Author.Rules.{rules}
+use lib.Dec.{leb}
+use Rattle.std.specs.Prelude.{MatchOption}
 use mathlib.Core.List.{List}
-use Prim.Native.Nat.{ℕ, ◌/◌, ◌%◌}
+use Prim.Native.Nat.{ℕ, ◌+◌, ◌/◌, ◌%◌}
 use native.Mathlib.Omega.{arith}
 use Rattle.fields.specs.Formats.{unpack}
 use Rattle.refusals.specs.Checks.{Check}
 use Rattle.refusals.proofs.CheckLaws.{Clear, first-at, first-none}
 use Rattle.transport.specs.Header.{head_of, header_field, payload_at}
-use Rattle.transport.specs.Tests.{transport_checks}
+use Rattle.transport.specs.Tests.{pointer_beyond, transport_checks}
 use Rattle.transport.specs.Look.{Looked, stands_in, seen_told}
 use Rattle.transport.proofs.HeaderLaws.{even-control, odd-control, payload-out, payload-within}
-use Rattle.transport.proofs.LookLaws.{pointer-none, pointer-some}
+use Rattle.transport.proofs.LookLaws.{pointer-judged}
 use Rattle.transport.proofs.check.Goals as goal
-use Rattle.transport.proofs.check.Goals.{Else-head-eq0, Else-head-eq1, Else-head-ne0, Else-head-ne71, Else-head-pid, Else-seen-gt187, Start}
+use Rattle.transport.proofs.check.Goals.{After-is_some_and, Else-head-eq0, Else-head-eq1, Else-head-ne0, Else-head-ne71, Else-head-from, Else-seen-gt187, Start}
 
 -- of which the numbers were read
 module _ (t : List ℕ) where
@@ -33,13 +36,13 @@ module _ (t : List ℕ) where
   unfolding transport_checks header_field unpack
   past2 c o = (past1 (goal.at.Else-head-eq1 c).Else-head-ne71 o, ne_eqb _ _ (λ e. c.if-head-eq1.false (ap (λ (h : ℕ). h / 8388608 % 2) o.0 ∙ e)))
 
-  past3 : (c : Else-head-pid) → Of (goal.at.Else-head-pid c).Start → Clear 3 (checks (goal.at.Else-head-pid c).Start)
+  past3 : (c : Else-head-from) → Of (goal.at.Else-head-from c).Start → Clear 3 (checks (goal.at.Else-head-from c).Start)
   unfolding transport_checks header_field unpack
-  past3 c o = (past2 (goal.at.Else-head-pid c).Else-head-eq1 o, ap not (eq-eqb _ _ (ap (λ (h : ℕ). h / 256 % 8192) (sym o.0) ∙ c.if-head-pid.false)))
+  past3 c o = (past2 (goal.at.Else-head-from c).Else-head-eq1 o, ap not (eq-eqb _ _ (ap (λ (h : ℕ). h / 256 % 8192) (sym o.0) ∙ c.if-head-from.false ∙ c.from.ensures)))
 
   past4 : (c : Else-head-ne0) → Of (goal.at.Else-head-ne0 c).Start → Clear 4 (checks (goal.at.Else-head-ne0 c).Start)
   unfolding transport_checks header_field unpack
-  past4 c o = (past3 (goal.at.Else-head-ne0 c).Else-head-pid o, ap not (eq-eqb _ _ (ap (λ (h : ℕ). h / 64 % 4) (sym o.0) ∙ c.if-head-ne0.false)))
+  past4 c o = (past3 (goal.at.Else-head-ne0 c).Else-head-from o, ap not (eq-eqb _ _ (ap (λ (h : ℕ). h / 64 % 4) (sym o.0) ∙ c.if-head-ne0.false)))
 
   past5 : (c : Else-head-eq0) → Of (goal.at.Else-head-eq0 c).Start → Clear 5 (checks (goal.at.Else-head-eq0 c).Start)
   unfolding transport_checks
@@ -61,15 +64,15 @@ unfolding transport_checks header_field unpack
 returns-then-head-eq1 c t h s =
     first-at 1 (checks t (goal.at.returns-then-head-eq1 c).Start) (past1 t (goal.at.returns-then-head-eq1 c).Else-head-ne71 (h, s)) (eq-eqb _ _ (ap (λ (x : ℕ). x / 8388608 % 2) (sym h) ∙ c.if-head-eq1.true))
 
-pub returns-then-head-pid : goal.returns-then-head-pid
+pub returns-then-head-from : goal.returns-then-head-from
 unfolding transport_checks header_field unpack
-returns-then-head-pid c t h s =
-    first-at 2 (checks t (goal.at.returns-then-head-pid c).Start) (past2 t (goal.at.returns-then-head-pid c).Else-head-eq1 (h, s)) (ap not (ne_eqb _ _ (λ e. c.if-head-pid.true (ap (λ (x : ℕ). x / 256 % 8192) h ∙ e))))
+returns-then-head-from c t h s =
+    first-at 2 (checks t (goal.at.returns-then-head-from c).Start) (past2 t (goal.at.returns-then-head-from c).Else-head-eq1 (h, s)) (ap not (ne_eqb _ _ (λ e. c.if-head-from.true (ap (λ (x : ℕ). x / 256 % 8192) h ∙ e ∙ sym c.from.ensures))))
 
 pub returns-then-head-ne0 : goal.returns-then-head-ne0
 unfolding transport_checks header_field unpack
 returns-then-head-ne0 c t h s =
-    first-at 3 (checks t (goal.at.returns-then-head-ne0 c).Start) (past3 t (goal.at.returns-then-head-ne0 c).Else-head-pid (h, s)) (ap not (ne_eqb _ _ (λ e. c.if-head-ne0.true (ap (λ (x : ℕ). x / 64 % 4) h ∙ e))))
+    first-at 3 (checks t (goal.at.returns-then-head-ne0 c).Start) (past3 t (goal.at.returns-then-head-ne0 c).Else-head-from (h, s)) (ap not (ne_eqb _ _ (λ e. c.if-head-ne0.true (ap (λ (x : ℕ). x / 64 % 4) h ∙ e))))
 
 pub returns-then-head-eq0 : goal.returns-then-head-eq0
 unfolding transport_checks
@@ -82,18 +85,19 @@ returns-then-seen-gt187 c t h s =
     let p : c.args.seen.payload ≡ payload_at t = ap (λ (x : Looked). x.payload) s in
     first-at 5 (checks t (goal.at.returns-then-seen-gt187 c).Start) (past5 t (goal.at.returns-then-seen-gt187 c).Else-head-eq0 (h, s)) (payload-out t (omega (arith, c.if-seen-gt187.true, p)))
 
-pub returns-in_default : goal.returns-in_default
-unfolding transport_checks
-returns-in_default c t h s =
-    first-none (checks t (goal.at.returns-in_default c).Start) (past6 t (goal.at.returns-in_default c).Else-seen-gt187 (h, s), pointer-none t _ s c.in_default.is)
+-- the closure's answer, where there is a pointer and where there is none
+aimed : (c : After-is_some_and) → (t : List ℕ) → seen_told c.args.seen ≡ stands_in t → c.is_some_and.result ≡ pointer_beyond t
+aimed c t s =
+    let judged : MatchOption c.args.seen.pointer (c.is_some_and.result ≡ false) (λ p. c.is_some_and.result ≡ leb 188 (c.args.seen.payload + 1 + p)) = search rules in
+    pointer-judged t _ s _ judged
 
-pub returns-then-seen-pointer-ge188 : goal.returns-then-seen-pointer-ge188
+pub returns-then-is_some_and : goal.returns-then-is_some_and
 unfolding transport_checks
-returns-then-seen-pointer-ge188 c t h s =
-    first-at 6 (checks t (goal.at.returns-then-seen-pointer-ge188 c).Start) (past6 t (goal.at.returns-then-seen-pointer-ge188 c).Else-seen-gt187 (h, s))
-    (pointer-some t _ s _ c.in-Some.is ∙ le-leb _ _ c.if-seen-pointer-ge188.true)
+returns-then-is_some_and c t h s =
+    first-at 6 (checks t (goal.at.returns-then-is_some_and c).Start) (past6 t (goal.at.returns-then-is_some_and c).Else-seen-gt187 (h, s))
+    (sym (aimed (goal.at.returns-then-is_some_and c).After-is_some_and t s) ∙ c.if-is_some_and.true)
 
 pub returns : goal.returns
 unfolding transport_checks
 returns c t h s =
-    first-none (checks t (goal.at.returns c).Start) (past6 t (goal.at.returns c).Else-seen-gt187 (h, s), pointer-some t _ s _ c.in-Some.is ∙ lt-leb _ _ c.if-seen-pointer-ge188.false)
+    first-none (checks t (goal.at.returns c).Start) (past6 t (goal.at.returns c).Else-seen-gt187 (h, s), sym (aimed (goal.at.returns c).After-is_some_and t s) ∙ c.if-is_some_and.false)
