@@ -185,10 +185,17 @@ or_swap false true false e = refl
 or_swap false false true e = refl
 or_swap false false false e = refl
 
-first_found : (seen : Option CodeWalked) (here : Bool) (w : CodeWalked) (x : Walked) → first_or seen (cond here (answered w) x) ≡ first_or (option_or seen (then_some here w)) x
-first_found (Some f) here w x = refl
-first_found None true w x = refl
-first_found None false w x = refl
+-- docs/PORT.md names it; no proof cites it
+first_found : (found here : Bool) (w f x : Walked) → cond found w (cond here f x) ≡ cond (found || here) (cond found w (cond here f w)) x
+first_found true here w f x = refl
+first_found false true w f x = refl
+first_found false false w f x = refl
+
+-- the first that was seen stays the first
+found-first : (seen : Option CodeWalked) (here : Bool) (w : CodeWalked) (x : Walked) → first_or seen (cond here (answered w) x) ≡ first_or (option_or seen (then_some here w)) x
+found-first (Some f) here w x = refl
+found-first None true w x = refl
+found-first None false w x = refl
 
 leb-two : (a b : ℕ) → leb (a + 2) (b + 2) ≡ leb a b
 leb-two a b =
@@ -216,7 +223,7 @@ module _ (end : ℕ) where
       let f : Placed = record { tag = tag; start = at + 2; body = body } in
       ap₂ (λ (t : Bool) (w : Walked). cond t w (refused 38))
       (or_swap s.reached (eqb s.place end) (eqb s.place (end_of f)) (ends_at s.place fs))
-      (rw (leb-two s.place at) (first_found s.first (leb s.place at) (given_walk at tag body) (step_in fs s.place end)))
+      (rw (leb-two s.place at) (found-first s.first (leb s.place at) (given_walk at tag body) (step_in fs s.place end)))
 
   -- what a pass tells: of what it has seen, and of what is left
   abbrev pub told : Seen → Left → Passed

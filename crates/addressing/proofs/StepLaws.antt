@@ -25,6 +25,24 @@ after-answer : (w : Walked) (at : ℕ) → w.refusal ≡ 0 → place_after w at 
 unfolding place_after
 after-answer w at h = rw (eq-eqb w.refusal 0 h)
 
+-- ---- a step on slice and numbers, from what `walk` answered
+
+-- what was found, and the place that the walk is then at
+pub record Taken : Type 0 where
+  pub answer : Walked
+  pub at : ℕ
+
+abbrev pub taken_of : List ℕ → ℕ → ℕ → Taken
+taken_of d tx at = record { answer = walk_of house d tx at; at = place_after (walk_of house d tx at) at }
+
+abbrev taken : Walked → ℕ → Taken
+taken w at = record { answer = w; at = at }
+
+module _ (d : List ℕ) (tx at : ℕ) (w : Walked) (e : w ≡ walk_of house d tx at) where
+  -- with a refusal the place stays. docs/PORT.md names it; no proof cites it
+  pub taken_refused : (w.refusal ≡ 0 → ⊥) → taken w at ≡ taken_of d tx at
+  taken_refused h = ap (taken w) (sym (after-refusal w at h)) ∙ ap (λ (x : Walked). taken x (place_after x at)) e
+
 -- ---- a step
 
 module _ (w : Walk) where

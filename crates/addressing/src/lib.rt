@@ -34,6 +34,7 @@ impl From<Fault> for Refusal {
 #[derive(Clone, Copy, Debug, PartialEq, Eq)]
 pub struct Given {
     pub tag: u8,
+    // Places, no slice: sfn_walk gives C these (docs/DECISIONS.md).
     pub start: usize,
     pub body: usize,
 }
@@ -65,12 +66,14 @@ enum Header {
 #[derive(Clone, Copy)]
 struct Seen {
     place: usize,
+    // A flag of its own: it holds with and without a first.
     reached: bool,
     first: Option<Walked>,
 }
 
 // The house rule: function_length counts both of the function's own bytes before its body, tag and length (01). Every
 // function that looks at a function_length takes how many of them it counts.
+// A parameter, no const: an edit (check_counts_by_the_house_rule_always) and specs/Data speak of any number.
 const HOUSE: u8 = 2;
 
 // How many bytes the body of the function at the front of l has.
@@ -131,7 +134,7 @@ fn group_header(l: &[u8]) -> Result<Option<Header>, Refusal>
     if group_cut(l) {
         return Err(Refusal::GroupCut);
     }
-    let owner = u16::from(fields::byte_at(l, 0)) * 256 + u16::from(fields::byte_at(l, 1));
+    let owner = u16::from_be_bytes([fields::byte_at(l, 0), fields::byte_at(l, 1)]);
     let bytes = usize::from(fields::byte_at(l, 2));
     Ok(Some(Header::Group { owner, bytes }))
 }
@@ -219,6 +222,7 @@ fn pass(data: &[u8], own: u8, transmitter: u16, place: usize) -> Result<Seen, Fa
         end: 0,
         owner: 0,
     };
+    // No range: each header tells where the next one stands.
     loop {
         let at = c.at;
         match header_at(data, own, c) {
@@ -239,6 +243,7 @@ fn pass(data: &[u8], own: u8, transmitter: u16, place: usize) -> Result<Seen, Fa
                 c.at = next;
             }
             Ok(None) => return Ok(seen),
+            // No map_err: tried; the closure's post could not be opened behind the match.
             Err(refusal) => return Err(Fault { refusal, place: at }),
         }
     }
@@ -289,6 +294,7 @@ pub fn payload_read(payload: &[u8]) -> Result<usize, Refusal>
 pub fn payload_data(payload: &[u8]) -> &[u8]
     ensures { result.now ≡ data_read house payload.now }
 {
+    // No generic function: the ranges differ, and a closure for one of them is longer than this match.
     match check_payload(payload) {
         Ok(()) => &payload[2..],
         Err(_) => &payload[..0],

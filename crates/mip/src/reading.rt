@@ -126,6 +126,7 @@ pub fn read(packet: &[u8]) -> Result<MipRead, Refusal>
 pub fn addressing_data(packet: &[u8]) -> &[u8]
     ensures { result.now ≡ addressing_read packet.now }
 {
+    // No generic function: the ranges differ, and a closure for one of them is longer than this match.
     match checked(packet) {
         Ok(lead) => {
             let end = 21 + usize::from(lead.addressing);

@@ -42,6 +42,7 @@ fn modulo_second(sum: i64) -> Steps
 }
 
 // When the mega-frame that a MIP points at is emitted, within its second.
+// Apart: emission_of and extra_of (specs/Timing) and C's functions take them so.
 #[tactic(auto, unfolding(crate::specs::Timing::emission_of, crate::specs::Timing::emission_checks, refusals::specs::Answers::answer))]
 pub fn emission(stamp: Steps, delay: Steps, offset: i32) -> Result<Steps, Refusal>
     ensures { time_told result ≡ emission_of stamp delay offset }
