@@ -1,6 +1,6 @@
 -- The laws of a transport packet with a start: the stages, one behind the other, on numbers and buffers.
 -- Assumes nothing.
-use mathlib.Core.Path.{◌≡◌, refl, sym, ap, ap₂, ◌∙◌}
+use mathlib.Core.Path.{◌≡◌, refl, sym, ap, ◌∙◌}
 use mathlib.Core.Bool.{cond}
 use mathlib.Core.List.{List, ◌++◌}
 use Prim.Native.Nat.{ℕ, ◌+◌, ◌-◌, ◌≤◌}
@@ -18,7 +18,7 @@ use Rattle.packet.specs.Cut.{Cut, cut, joined}
 use Rattle.packet.proofs.CutLaws.{cut-cuts, joined-append}
 use Rattle.gather.specs.Rules.{none, Hand, misfits, up_to_start, unfinished, from_start}
 use Rattle.gather.specs.Gather.{joiners}
-use Rattle.gather.specs.Phases.{Numbers, misfits_in, unfinished_in, numbers, hand_of, InHand, Ready, led_of, with_start_of, followed_of}
+use Rattle.gather.specs.Phases.{unfinished_in, numbers, hand_of, InHand, Ready, led_of, with_start_of, followed_of}
 use Rattle.gather.proofs.JoinLaws.{longer, Small, front, front-small}
 
 -- ---- the stages from the start on, on numbers

@@ -1,6 +1,6 @@
 -- `gather::Hand::follow` meets its contract.
 use lib.ListN.{length, length-drop}
-use mathlib.Core.Path.{refl, ap, ◌∙◌}
+use mathlib.Core.Path.{ap, ◌∙◌}
 use Rattle.std.specs.Prelude.{Err}
 use Prim.Native.Nat.{◌≤◌}
 use native.Mathlib.Omega.{arith}
