@@ -34,20 +34,20 @@ numbers h =
     }
 
 -- the steps of Rules.antt, on numbers
-abbrev pub drops_in : Numbers → Numbers
-drops_in h = record { in_step = false; waiting = 0; bytes = h.bytes; packets = h.packets; marks = h.marks }
+abbrev pub dropped_in : Marks → Numbers → Numbers
+dropped_in marks h = record { in_step = false; waiting = 0; bytes = h.bytes; packets = h.packets; marks = marks }
 
-abbrev pub marked : Marks → Numbers → Numbers
-marked marks h = record { in_step = h.in_step; waiting = h.waiting; bytes = h.bytes; packets = h.packets; marks = marks }
+abbrev pub drops_in : Numbers → Numbers
+drops_in h = dropped_in h.marks h
 
 abbrev pub lost_in : Numbers → Numbers
-lost_in h = drops_in (marked (mark_loss h.marks) h)
+lost_in h = dropped_in (mark_loss h.marks) h
 
 abbrev pub misfits_in : Numbers → Numbers
-misfits_in h = drops_in (marked (mark_misfit h.marks) h)
+misfits_in h = dropped_in (mark_misfit h.marks) h
 
 abbrev pub crc_fails_in : Numbers → Numbers
-crc_fails_in h = drops_in (marked (mark_crc h.marks) h)
+crc_fails_in h = dropped_in (mark_crc h.marks) h
 
 abbrev pub waits_in : ℕ → Numbers → Numbers
 waits_in n h = record { in_step = true; waiting = n; bytes = h.bytes; packets = h.packets; marks = h.marks }

@@ -43,8 +43,9 @@ pub struct Gathered {
     pub marks: Marks,
 }
 
-// What a call has in hand between two stages: whether it is in step, how many bytes wait in the gathering buffer, how much
-// is handed out in the output, the marks, and these two lent buffers.
+// What a call has in hand between two stages: whether it is in step, how many bytes wait in the gathering buffer, the bytes
+// and packets handed out so far, the marks, and the two lent buffers. Each has a lifetime of its own, so that one can be taken
+// out while the other is lent.
 #[derive(Drop)]
 struct Hand<'g, 'o> {
     in_step: bool,
@@ -165,7 +166,7 @@ impl Hand<'_, '_> {
     fn lays_out(&mut self, n: usize)
         ensures { Stage (lays_out_of n) self.old self.new }
     {
-        let gathering = mem::take(&mut self.gathering); // as both are lent at once
+        let gathering = mem::take(&mut self.gathering); // two fields behind one `&mut` are not lent at once
         fields::copy(self.output, 0, n, gathering, 0);
         self.gathering = gathering;
     }
@@ -213,7 +214,8 @@ impl Hand<'_, '_> {
 
     // From the start on, packet after packet by their own lengths.
     fn follow(&mut self, onward: &[u8])
-        requires { (length onward.now ≤ 183) × (self.old.packets ≤ 1) × (self.old.bytes ≤ 8202) × (self.old.bytes + length onward.now ≤ length self.old.output.now) }
+        requires few { (length onward.now ≤ 183) × (self.old.packets ≤ 1) × (self.old.bytes ≤ 8202) }
+        requires room { self.old.bytes + length onward.now ≤ length self.old.output.now }
         ensures { Stage (followed_of onward.now) self.old self.new }
     {
         let mut rest = onward;
