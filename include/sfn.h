@@ -14,8 +14,8 @@
  * rules remain: each pointer is good for its length and not null (also with length 0), and a slice that is written
  * overlaps no other slice of the same call. Calls on different memory may run at the same time.
  *
- * What it needs. Of C's library memcpy and memset, and nothing else; no heap, no thread, no file. A call takes at
- * most SFN_STACK bytes of stack, those of memcpy and memset aside (tests/stack reads it off the compiled code).
+ * What it needs. Of C's library memset, and nothing else; no heap, no thread, no file. A call takes at most SFN_STACK
+ * bytes of stack, those of memset aside (tests/stack reads it off the compiled code).
  */
 #ifndef SFN_H
 #define SFN_H
@@ -33,7 +33,7 @@
 #define SFN_OUTPUT 8385        /* bytes that the output of a reader has at least */
 #define SFN_BATCH_MOST 65536   /* bytes of a batch at most */
 #define SFN_NONE 255           /* sfn_reader.last: no count was taken yet */
-#define SFN_STACK 2048         /* bytes of stack that a call takes at most (1,872 measured) */
+#define SFN_STACK 2048         /* bytes of stack that a call takes at most (312 measured) */
 
 /* sfn_stamp.kind */
 #define SFN_STAMP_ABSOLUTE 0
