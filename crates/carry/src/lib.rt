@@ -205,13 +205,14 @@ fn put_piece(part: &mut [u8], pid: u16, count: u8, piece: Piece)
     fields::copy(t, 188 - n, n, piece.bytes, 0);
 }
 
-// Lays all transport packets of a batch over the front of out, the counts rising from the first.
+// Lays all transport packets of a batch over the front of out, the counts rising from the first. No struct of pid, first_count
+// and batch: carry takes them so, and carry_checks and Laid cite them.
 fn put_pieces(pid: u16, first_count: u8, batch: &[u8], out: &mut [u8]) -> Sent
     requires small { (first_count < 16) × (length batch.now ≤ 65536) }
     requires room { 188 * length (loads_from 0 batch.now) ≤ length out.old }
     ensures { Laid pid first_count (loads_from 0 batch.now) out.old result out.new }
 {
-    let mut packets = 0;
+    let mut packets = 0; // counted for the answer too
     let mut count = first_count;
     // Not over chunks_exact_mut: of a chunk whose borrow is over, a proof knows the length alone, and not the bytes.
     for piece in Pieces::of(batch) {

@@ -23,11 +23,12 @@ use transport::Looked;
 pub struct Reader {
     pub pid: u16,
     pub last: Option<u8>,
+    // No Option with what waits: a state that waits out of step is one that 38 refuses (waits_out_of_step, specs/State).
     pub in_step: bool,
     pub waiting: usize,
 }
 
-// The marks of a call.
+// The marks of a call. Three flags with no value beside them: each may be set without the others.
 #[derive(Clone, Copy, Debug, Default, PartialEq, Eq)]
 pub struct Marks {
     pub loss: bool,
@@ -45,7 +46,7 @@ pub struct Gathered {
 
 // What a call has in hand between two stages: whether it is in step, how many bytes wait in the gathering buffer, the bytes
 // and packets handed out so far, the marks, and the two lent buffers. Each has a lifetime of its own, so that one can be taken
-// out while the other is lent.
+// out while the other is lent. `Ready`, in the contracts of its stages, is no invariant: it holds until a packet is handed out.
 #[derive(Drop)]
 struct Hand<'g, 'o> {
     in_step: bool,

@@ -128,7 +128,8 @@ fn has_room(filled: usize, space: usize, room: usize) -> bool
     space <= room / 2 && filled <= room - 2 * space
 }
 
-// Moves the bytes of a block from at on, of the first have, to its front, and gives their number.
+// Moves the bytes of a block from at on, of the first have, to its front, and gives their number. Places beside the slice:
+// docs/STATEMENTS.md has it for any numbers.
 pub fn keep_rest(block: &mut [u8], at: usize, have: usize) -> usize
     ensures { record { at = result; lines = block.new } ≡ kept_of at have block.old }
 {
@@ -160,8 +161,8 @@ impl Listing {
         self.gaps = self.gaps.saturating_add(u64::from(call.marks.loss));
     }
 
-    // Takes one transport packet, and appends the lines of what it finishes. gathering and output are the reader's. Where the
-    // text may have too little room nothing is done, and it says so by false.
+    // Takes one transport packet, and appends the lines of what it finishes. gathering and output are the reader's, apart as
+    // Reader::gather takes them. Where the text may have too little room nothing is done, and it says so by false.
     pub fn step(
         &mut self,
         transport: &[u8],
@@ -197,7 +198,7 @@ impl Listing {
         ensures same_reference { text.new.lines.ghost_name ≡ text.old.lines.ghost_name }
         ensures fed { record { answer = fed_told self.new (length block.now) result text.new.at; gathering = gathering.new; output = output.new; lines = text.new.lines.now } ≡ fed_of (pieces block.now) self.old gathering.old output.old text.old.lines.now 0 text.old.at }
     {
-        let mut taken = 0;
+        let mut taken = 0; // counted for the answer
         for piece in block.chunks_exact(188) {
             if !self.step(piece, gathering, output, text) {
                 return taken; // before this piece, which is fed again

@@ -42,7 +42,7 @@ fn write_out(rt: &impl Print, text: &[u8]) -> Result<(), Fault> {
 }
 
 // How many bytes stand in the block with more of the input behind its first have; nothing at the input's end. Where a whole
-// piece waits to be fed nothing is read.
+// piece waits to be fed nothing is read. A count beside the block: no Vec, as nothing here has a heap.
 fn more<R: Read>(input: &mut R, block: &mut [u8], have: usize) -> Result<Option<usize>, Fault>
     requires { have ≤ length block.old }
     ensures { IfOk result (λ came. MatchOption came (have < 188) (λ n. (have ≤ n) × (n ≤ length block.new) × (take have block.new ≡ take have block.old))) }
