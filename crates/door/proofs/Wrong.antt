@@ -14,7 +14,7 @@ use Rattle.refusals.specs.Answers.{answer}
 use Rattle.crc.specs.Crc as crc
 use Rattle.packet.specs.Layout.{size_of}
 use Rattle.packet.specs.Cut.{cut_by, cut, batch_fault, joined}
-use Rattle.stamp.specs.Layout.{is_null, kind_of}
+use Rattle.stamp.specs.Layout.{is_null, kind_of, kind_number}
 use Rattle.stamp.specs.Read as stamp
 use Rattle.transport.specs.Header as transport
 use Rattle.transport.specs.Load.{head_bytes, transport_of}
@@ -25,7 +25,6 @@ use Rattle.gather.specs.State.{start_of, unfit, gather_checks}
 use Rattle.demands.specs.Route.{writers}
 use Rattle.demands.proofs.Wrong.Changed.{buffer, space}
 use Rattle.demands.proofs.Wrong.Three.{one, good}
-use Rattle.sfn.specs.Answers.{kind_number}
 use Rattle.sfn.specs.Reader.{last_from, SfnOutcome, gathered_by}
 use Rattle.sfn.specs.declared.SfnStamp.{SfnStamp}
 use Rattle.sfn.specs.declared.reader.SfnReader.{SfnReader}

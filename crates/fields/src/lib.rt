@@ -58,7 +58,7 @@ pub fn copy(dst: &mut [u8], at: usize, n: usize, src: &[u8], from: usize)
     if !within(from, n, src.len()) || !within(at, n, dst.len()) {
         return;
     }
-    // A `for`, as in the crates above: copy_from_slice compiles to memmove, which sfn.h promises not to need.
+    // A `for`: copy_from_slice between lent slices is memmove, which include/sfn.h promises not to need.
     for (i, b) in src[from..from + n].iter().enumerate() {
         dst[at + i] = *b;
     }

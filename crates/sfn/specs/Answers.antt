@@ -7,10 +7,8 @@ use Rattle.functions.specs.Read.{function_told}
 use Rattle.sfn.specs.declared.SfnFunction.{SfnFunction}
 use Rattle.packet.specs.Read.{Packet}
 use Rattle.packet.specs.Layout.{size_of}
-use Rattle.stamp.specs.Layout.{kind_of}
+use Rattle.stamp.specs.Layout.{kind_of, kind_number}
 use Rattle.stamp.specs.declared.Stamp.{Stamp}
-use Rattle.stamp.specs.declared.Kind.{Kind}
-use Rattle.stamp.specs.declared.Kind.TheVariants.{Null, Relative, Absolute}
 use Rattle.stamp.specs.Read.{StampRead, stamp_told}
 use Rattle.sfn.specs.declared.SfnStamp.{SfnStamp}
 use Rattle.sfn.specs.declared.SfnPacket.{SfnPacket}
@@ -29,12 +27,6 @@ packet_of p =
 -- the length that the packet at the front of the bytes says, or 0 where they do not hold it all
 unfoldable pub length_held : List ℕ → ℕ
 length_held l = cond (ltb (length l) (size_of l)) 0 (size_of l)
-
--- what a stamp is
-abbrev pub kind_number : Kind → ℕ
-kind_number Absolute = 0
-kind_number Relative = 1
-kind_number Null = 2
 
 -- the kind of a stamp that was read; with a refusal all fields are 0, and so is this
 unfoldable pub kind_read : ℕ → Stamp → ℕ

@@ -14,7 +14,7 @@ ghost use Rattle.carry.specs.Carry.{carry_of};
 ghost use Rattle.functions.specs.Read.{function_read};
 ghost use Rattle.stamp.specs.Read.{read_of as stamp_read};
 ghost use Rattle.stamp.specs.Write.{write_of as stamp_written};
-ghost use Rattle.sfn.specs.Answers.{packet_of, length_held, kind_number, stamp_of, ShowsStamp, stamp_from, bit_of, of_kind, function_of, ShowsFunction};
+ghost use Rattle.sfn.specs.Answers.{packet_of, length_held, stamp_of, ShowsStamp, stamp_from, bit_of, of_kind, function_of, ShowsFunction};
 ghost use Rattle.sfn.specs.Making.{made_of, function_written};
 
 use carry::Carried;
@@ -26,7 +26,7 @@ pub use site::{
     SfnAddressing, SfnMip, SfnTime, SfnWalked, sfn_addressing_read, sfn_addressing_write,
     sfn_emission, sfn_extra_delay, sfn_mip_read, sfn_mip_write, sfn_walk,
 };
-use stamp::{Kind, Stamp, Subseconds};
+use stamp::{Stamp, Subseconds};
 
 // What reading a T2-MI packet gives, with the header's fields beside the refusal.
 #[repr(C)]
@@ -118,16 +118,10 @@ pub struct SfnStamp {
     pub kind: u8,
 }
 
-// What a stamp is, as a number.
-fn kind_number(kind: Kind) -> u8
-    ensures { result ≡ kind_number kind }
-{
-    kind as u8
-}
-
 impl From<Result<Stamp, Refusal>> for SfnStamp {
     ghost from_gives = { ShowsStamp };
 
+    #[tactic(auto, unfolding(crate::specs::Answers::kind_read))]
     fn from(answer: Result<Stamp, Refusal>) -> SfnStamp {
         match answer {
             Ok(s) => SfnStamp {
@@ -136,7 +130,7 @@ impl From<Result<Stamp, Refusal>> for SfnStamp {
                 subseconds: s.subseconds.0,
                 utco: s.utco,
                 bw: s.bw,
-                kind: kind_number(stamp::kind_of(s)),
+                kind: u8::from(stamp::kind_of(s)),
             },
             Err(e) => SfnStamp {
                 refusal: e.number(),

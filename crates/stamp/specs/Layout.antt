@@ -38,6 +38,12 @@ Means Null s = is_null s ≡ true
 Means Relative s = s.seconds ≡ 0
 Means Absolute s = (is_null s ≡ false) × (s.seconds ≡ 0 → ⊥)
 
+-- a kind as a number
+abbrev pub kind_number : Kind → ℕ
+kind_number Absolute = 0
+kind_number Relative = 1
+kind_number Null = 2
+
 -- the null stamp of a bandwidth code, and its bytes: the code, and then ten bytes of ones
 abbrev pub null_stamp : ℕ → Stamp
 null_stamp bw = record { bw = bw; seconds = ones 40; subseconds = record { 0 = ones 27 }; utco = ones 13 }

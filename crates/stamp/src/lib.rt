@@ -5,7 +5,7 @@ ghost use Rattle.std.specs.Prelude.{◌≡◌, ◌≤◌, length};
 ghost use Rattle.fields.specs.Formats.{too_wide};
 ghost use Rattle.refusals.specs.Checks.{first};
 ghost use Rattle.refusals.specs.Answers.{code, bytes_of};
-ghost use Rattle.stamp.specs.Layout.{format, units_of, is_null, kind_of, second_reached};
+ghost use Rattle.stamp.specs.Layout.{format, units_of, is_null, kind_of, kind_number, second_reached};
 ghost use Rattle.stamp.specs.Read.{stamp_of, reserved_set, read_checks, read_of, stamp_told};
 ghost use Rattle.stamp.specs.Write.{fields_of, write_checks, write_of};
 
@@ -30,6 +30,15 @@ pub enum Kind {
     Absolute = 0,
     Relative = 1,
     Null = 2,
+}
+
+// A kind's number.
+impl From<Kind> for u8 {
+    ghost from_gives = { λ kind n. n ≡ kind_number kind };
+
+    fn from(kind: Kind) -> u8 {
+        kind as u8
+    }
 }
 
 // Subsecond units in a microsecond, by bandwidth code.

@@ -38,7 +38,6 @@ impl Text<'_> {
     {
         let n = text.len();
         if fields::within(self.at, n, self.lines.len()) {
-            // By fields::copy: of copy_from_slice into a part of the struct's slice a proof knows only a raw name.
             fields::copy(self.lines, self.at, n, text, 0);
             self.at += n;
         }

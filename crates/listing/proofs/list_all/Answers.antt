@@ -28,7 +28,7 @@ brought g c =
     reach-more (from g c) c.loop.listing c.loop.gathering c.loop.output c.loop.text.lines.now c.loop.block c.loop.have c.loop.invariant.1 c.more.new.block c.in-Some.came e.0 e.2
 
 pub loop-init : goal.loop-init
-loop-init g c = (omega arith, reach-start _ _ _ _ c.requires)
+loop-init g c = (omega arith, reach-start _ _ _ _ c.start.ensures)
 
 pub loop-preserved : goal.loop-preserved
 loop-preserved g c =

@@ -1,13 +1,9 @@
--- The result of reading a stamp is laid out flat: its fields and its kind, or the refusal's number and zeros.
+-- A refused reading of a stamp is laid out flat: the refusal's number and zeros.
 use borrow.Author.Rules.{rules}
 use borrow.Author.Tests.{ne_eqb}
 use Rattle.refusals.proofs.NumberLaws.{number-not-0}
 use Rattle.sfn.specs.Answers.{kind_read}
 use Rattle.sfn.proofs.SfnStampFromResultStampRefusal.from.Goals as goal
-
-pub returns-in-Ok : goal.returns-in-Ok
-unfolding kind_read
-returns-in-Ok c = rw (c.in-Ok.is, c.kind_number.ensures, c.kind_of.ensures)
 
 pub returns-in-Err : goal.returns-in-Err
 unfolding kind_read
