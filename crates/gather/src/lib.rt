@@ -69,12 +69,13 @@ fn nth(waiting: &[u8], d: &[u8], k: usize) -> u8
 }
 
 // The length that the bytes that wait, with those of d behind them, give their packet.
+#[tactic(auto, unfolding(packet::specs::Layout::size_of))]
 fn joined_length(waiting: &[u8], d: &[u8]) -> usize
     ensures { (result ≡ size_of (waiting.now ++ d.now)) × (result ≤ 8202) }
 {
     let high = nth(waiting, d, 4);
     let low = nth(waiting, d, 5);
-    packet::total(high as u32 * 256 + low as u32)
+    packet::total(u32::from(u16::from_be_bytes([high, low])))
 }
 
 // Whether the bytes that wait reach the length that they give their packet. Fewer than six never do.
@@ -95,7 +96,7 @@ fn count_over(last: Option<u8>) -> bool
 fn out_of_turn(last: Option<u8>, count: u8) -> bool
     ensures { result ≡ out_of_turn last count }
 {
-    last.is_some_and(|n| count as usize != (n as usize + 1) % 16)
+    last.is_some_and(|n| usize::from(count) != (usize::from(n) + 1) % 16)
 }
 
 // The steps and stages of specs/Rules.antt.
@@ -108,6 +109,7 @@ impl Hand<'_, '_> {
         self.waiting = 0; // what waited is dropped
     }
 
+    // This and the next two are no one function over an enum of marks: each has a definition of its own, in two lines.
     fn lost(&mut self)
         ensures { Step lost_in self.old self.new }
     {
