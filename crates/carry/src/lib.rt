@@ -79,7 +79,7 @@ fn left_after(batch: &[u8], bytes: usize) -> usize
     let mut end = 0;
     // No range: each packet's own length tells where the next begins.
     while end < bytes {
-        end += packet::own_length(&batch[end..]);
+        end += packet::front_length(&batch[end..]);
     }
     end - bytes
 }

@@ -82,7 +82,7 @@ fn joined_length(waiting: &[u8], d: &[u8]) -> usize
 fn reached(waiting: &[u8]) -> bool
     ensures { result ≡ reaches waiting.now }
 {
-    packet::own_length(waiting) <= waiting.len()
+    packet::front_length(waiting) <= waiting.len()
 }
 
 // Whether a last count cannot be one.
@@ -224,7 +224,7 @@ impl Hand<'_, '_> {
         let mut rest = onward;
         // Not over packet::Packets: what is left behind the good packets waits, and the iterator keeps that to itself.
         loop {
-            match packet::judge(rest) {
+            match packet::judge_front(rest) {
                 Err(Flaw::Short) => return self.waits(rest.len()),
                 Err(Flaw::Bad) => return self.crc_fails(),
                 Ok(size) => {

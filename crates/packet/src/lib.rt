@@ -1,7 +1,7 @@
 // T2-MI packets (002, clause 5.1): their header and payload, read and written, and the cut of packets back to back.
 #![tactic(auto)]
 
-ghost use Rattle.std.specs.Prelude.{◌≡◌};
+ghost use Rattle.std.specs.Prelude.{◌≡◌, drop};
 ghost use Rattle.std.specs.Iterator.{YieldsFirstBy, item_count};
 ghost use Rattle.fields.specs.Formats.{pack, too_wide};
 ghost use Rattle.refusals.specs.Checks.{first};
@@ -82,9 +82,16 @@ fn pad_set(bits: u32, payload: &[u8]) -> bool
     last % (1u8 << pad) != 0
 }
 
+// What stands in s from a place on; nothing where s ends before it.
+fn from_on(s: &[u8], at: usize) -> &[u8]
+    ensures { result.now ≡ drop at s.now }
+{
+    s.get(at..).unwrap_or(&[])
+}
+
 // The length that the packet that s begins with gives itself.
 #[tactic(auto, unfolding(crate::specs::Layout::size_of))]
-pub fn own_length(s: &[u8]) -> usize
+pub fn front_length(s: &[u8]) -> usize
     ensures { result ≡ size_of s.now }
 {
     let high = fields::byte_at(s, 4);
@@ -92,12 +99,19 @@ pub fn own_length(s: &[u8]) -> usize
     total(u32::from(u16::from_be_bytes([high, low])))
 }
 
+// The length that the packet of s at a place gives itself.
+pub fn own_length(s: &[u8], at: usize) -> usize
+    ensures { result ≡ size_of (drop at s.now) }
+{
+    front_length(from_on(s, at))
+}
+
 // The length of the good packet that s begins with.
 #[tactic(auto, unfolding(crate::specs::Cut::judge_of))]
-pub fn judge(s: &[u8]) -> Result<usize, Flaw>
+pub fn judge_front(s: &[u8]) -> Result<usize, Flaw>
     ensures { result ≡ judge_of s.now }
 {
-    let size = own_length(s);
+    let size = front_length(s);
     if s.len() < size {
         return Err(Flaw::Short);
     }
@@ -105,6 +119,13 @@ pub fn judge(s: &[u8]) -> Result<usize, Flaw>
         return Ok(size);
     }
     Err(Flaw::Bad)
+}
+
+// The length of the good packet of s at a place.
+pub fn judge(s: &[u8], at: usize) -> Result<usize, Flaw>
+    ensures { result ≡ judge_of (drop at s.now) }
+{
+    judge_front(from_on(s, at))
 }
 
 // The packets that bytes begin with, back to back, each as a part of them; a flaw is the last that comes.
@@ -133,7 +154,7 @@ impl<'a> Iterator for Packets<'a> {
         if self.rest.is_empty() {
             return None;
         }
-        match judge(self.rest) {
+        match judge_front(self.rest) {
             Ok(size) => {
                 let (packet, rest) = self.rest.split_at(size);
                 self.rest = rest;
@@ -188,7 +209,7 @@ pub fn read(s: &[u8]) -> Result<Header, Refusal>
     if s.len() < 10 {
         return Err(Refusal::SliceUnder10);
     }
-    let size = own_length(s);
+    let size = front_length(s);
     if s.len() != size {
         return Err(Refusal::LengthUnlikePayloadLen);
     }

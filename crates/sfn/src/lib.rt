@@ -72,7 +72,7 @@ pub fn sfn_crc(bytes: &[u8]) -> u32
 pub fn sfn_packet_length(bytes: &[u8]) -> u32
     ensures { result ≡ length_held bytes.now }
 {
-    let size = packet::own_length(bytes);
+    let size = packet::front_length(bytes);
     if bytes.len() < size {
         return 0;
     }

@@ -10,7 +10,7 @@ use Rattle.packet.proofs.LayoutLaws.{size-least, size-most}
 use Rattle.carry.proofs.ByteLaws.{left-none, left-past, left_in}
 use Rattle.carry.specs.OnBytes.{left_of}
 use Rattle.carry.proofs.left_after.Goals as goal
-use Rattle.carry.proofs.left_after.Goals.{After-own_length-end}
+use Rattle.carry.proofs.left_after.Goals.{After-front_length-end}
 
 -- one packet on, from a place before n
 module _ (b : List ℕ) (n end size : ℕ) (e : size ≡ size_of (drop end b)) (h : end < n) (i : left_of (n - end) (drop end b) ≡ left_of n b) where
@@ -40,15 +40,15 @@ module _ (b : List ℕ) (n end size : ℕ) (e : size ≡ size_of (drop end b)) (
       (λ t. past (leb-false _ _ t))
 
 -- the length of the packet at the place
-own : (c : After-own_length-end) → c.own_length-end.result ≡ size_of (drop c.loop-end.end c.args.batch.now)
+own : (c : After-front_length-end) → c.front_length-end.result ≡ size_of (drop c.loop-end.end c.args.batch.now)
 own c =
     let b = c.args.batch.now in
-    c.own_length-end.ensures ∙ ap size_of (between_to_end b c.loop-end.end (length b) (omega arith))
+    c.front_length-end.ensures ∙ ap size_of (between_to_end b c.loop-end.end (length b) (omega arith))
 
 pub overflow_add-end : goal.overflow_add-end
 overflow_add-end c =
     let b = c.args.batch.now in
-    omega (arith, own (goal.at.overflow_add-end c).After-own_length-end, size-most (drop c.loop-end.end b) (bytes_drop c.loop-end.end b (search rules)), c.requires)
+    omega (arith, own (goal.at.overflow_add-end c).After-front_length-end, size-most (drop c.loop-end.end b) (bytes_drop c.loop-end.end b (search rules)), c.requires)
 
 pub loop-end-init : goal.loop-end-init
 loop-end-init c =
@@ -57,14 +57,14 @@ loop-end-init c =
     (λ h. let z : n - 0 ≡ n = omega arith in ap (λ (k : ℕ). left_of k b) z, λ h. let z : n ≡ 0 = omega arith in let y : 0 - n ≡ 0 = omega arith in y ∙ sym (left-none b) ∙ ap (λ (k : ℕ). left_of k b) (sym z))
 
 pub loop-end-smaller : goal.loop-end-smaller
-loop-end-smaller c = omega (arith, own (goal.at.loop-end-smaller c).After-own_length-end, size-least (drop c.loop-end.end c.args.batch.now))
+loop-end-smaller c = omega (arith, own (goal.at.loop-end-smaller c).After-front_length-end, size-least (drop c.loop-end.end c.args.batch.now))
 
 pub loop-end-preserved : goal.loop-end-preserved
 loop-end-preserved c =
     let l = c.loop-end in
     let b = c.args.batch.now in
     let h : l.end < c.args.bytes = c.loop-end-test.true in
-    let e = own (goal.at.loop-end-preserved c).After-own_length-end in
+    let e = own (goal.at.loop-end-preserved c).After-front_length-end in
     let i = l.invariant.0 (omega arith) in
     (upto b c.args.bytes l.end _ e h i, over b c.args.bytes l.end _ e h i)
 

@@ -22,7 +22,7 @@ kind-judged c = c.reserved_type.ensures ∙ ap (λ (h : Header). reserved_type h
 lent : (c : Else-reserved_type) → take (length c.args.s.now - 4 - 6) (drop 6 c.args.s.now) ≡ payload_of c.args.s.now
 lent c =
     payload-part c.args.s.now (search rules) c.if-s-lt10.false
-    (c.if-s-size.false ∙ c.own_length-size.ensures)
+    (c.if-s-size.false ∙ c.front_length-size.ensures)
 
 pad-judged : (c : After-pad_set) → c.pad_set.result ≡ pad_set (field 5 c.args.s.now) (payload_of c.args.s.now)
 unfolding header_of
@@ -35,7 +35,7 @@ past1 c = (tt, le-ltb _ _ c.if-s-lt10.false)
 
 past2 : (c : Else-s-size) → Clear 2 (checks (goal.at.Else-s-size c).Start)
 unfolding read_checks
-past2 c = (past1 (goal.at.Else-s-size c).Else-s-lt10, ap not (eq-eqb _ _ (c.if-s-size.false ∙ c.own_length-size.ensures)))
+past2 c = (past1 (goal.at.Else-s-size c).Else-s-lt10, ap not (eq-eqb _ _ (c.if-s-size.false ∙ c.front_length-size.ensures)))
 
 past3 : (c : Else-not-holds) → Clear 3 (checks (goal.at.Else-not-holds c).Start)
 unfolding read_checks
@@ -61,7 +61,7 @@ returns-then-s-lt10 c =
 pub returns-then-s-size : goal.returns-then-s-size
 unfolding read_checks
 returns-then-s-size c =
-    read-told _ LengthUnlikePayloadLen (first-at 1 (checks (goal.at.returns-then-s-size c).Start) (past1 (goal.at.returns-then-s-size c).Else-s-lt10) (ap not (ne_eqb _ _ (λ e. c.if-s-size.true (e ∙ sym c.own_length-size.ensures)))))
+    read-told _ LengthUnlikePayloadLen (first-at 1 (checks (goal.at.returns-then-s-size c).Start) (past1 (goal.at.returns-then-s-size c).Else-s-lt10) (ap not (ne_eqb _ _ (λ e. c.if-s-size.true (e ∙ sym c.front_length-size.ensures)))))
 
 pub returns-then-not-holds : goal.returns-then-not-holds
 unfolding read_checks

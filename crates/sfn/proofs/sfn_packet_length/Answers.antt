@@ -1,4 +1,4 @@
--- `sfn::sfn_packet_length` meets its contract: what `packet::own_length` gives at the front, where the bytes reach so far. Two
+-- `sfn::sfn_packet_length` meets its contract: what `packet::front_length` gives at the front, where the bytes reach so far. Two
 -- bytes of payload_len make it at most 8,202.
 use borrow.Author.Tests.{lt-ltb, le-ltb}
 use mathlib.Core.Path.{◌≡◌, ◌∙◌}
@@ -22,13 +22,13 @@ unfolding length_held
 held l n e h = rw (le-ltb (length l) (size_of l) (omega (arith, e, h))) e
 
 pub returns-then-bytes-size : goal.returns-then-bytes-size
-returns-then-bytes-size c = cut c.args.bytes.now _ c.own_length-size.ensures c.if-bytes-size.true
+returns-then-bytes-size c = cut c.args.bytes.now _ c.front_length-size.ensures c.if-bytes-size.true
 
 pub count_32-requires : goal.count_32-requires
 count_32-requires c =
-    omega (arith, c.own_length-size.ensures, size-most c.args.bytes.now (λ i. (c.shared_slice_known-1.given i).fits))
+    omega (arith, c.front_length-size.ensures, size-most c.args.bytes.now (λ i. (c.shared_slice_known-1.given i).fits))
 
 pub returns : goal.returns
 returns c =
     c.count_32.ensures
-    ∙ held c.args.bytes.now _ c.own_length-size.ensures c.if-bytes-size.false
+    ∙ held c.args.bytes.now _ c.front_length-size.ensures c.if-bytes-size.false

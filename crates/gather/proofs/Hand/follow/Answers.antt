@@ -16,21 +16,21 @@ good : (u : In-Ok)
     → (10 ≤ u.in-Ok.size) × (u.in-Ok.size ≤ length u.loop-self.rest.now)
 good u =
     let l = u.loop-self in
-    lies l.rest.now _ u.judge.ensures (in_hand_of l.self) _ u.in-Ok.is
+    lies l.rest.now _ u.judge_front.ensures (in_hand_of l.self) _ u.in-Ok.is
 
 pub returns-in-Err-Short : goal.returns-in-Err-Short
 returns-in-Err-Short c =
     let l = c.loop-self in
     let e = c.waits.ensures in
     let i = l.invariant in
-    (e.0 ∙ i.0, e.1 ∙ i.1, e.2 ∙ followed-short l.rest.now _ c.judge.ensures (in_hand_of l.self) (c.in-Err-Short.is ∙ ap Err c.in-Err-Short.field-0-is) ∙ i.6)
+    (e.0 ∙ i.0, e.1 ∙ i.1, e.2 ∙ followed-short l.rest.now _ c.judge_front.ensures (in_hand_of l.self) (c.in-Err-Short.is ∙ ap Err c.in-Err-Short.field-0-is) ∙ i.6)
 
 pub returns-in-Err-Bad : goal.returns-in-Err-Bad
 returns-in-Err-Bad c =
     let l = c.loop-self in
     let e = c.crc_fails.ensures in
     let i = l.invariant in
-    (e.0 ∙ i.0, e.1 ∙ i.1, e.2 ∙ followed-bad l.rest.now _ c.judge.ensures (in_hand_of l.self) (c.in-Err-Bad.is ∙ ap Err c.in-Err-Bad.field-0-is) ∙ i.6)
+    (e.0 ∙ i.0, e.1 ∙ i.1, e.2 ∙ followed-bad l.rest.now _ c.judge_front.ensures (in_hand_of l.self) (c.in-Err-Bad.is ∙ ap Err c.in-Err-Bad.field-0-is) ∙ i.6)
 
 pub hands_out-requires : goal.hands_out-requires
 hands_out-requires c = omega (arith, good (goal.at.hands_out-requires c).In-Ok, c.loop-self.invariant)
@@ -64,5 +64,5 @@ loop-self-preserved c =
       omega (arith, out, c.copy.auto, i),
       omega (arith, g, k, packets, i),
       omega (arith, g, k, bytes, i),
-      followed-good l.rest.now _ c.judge.ensures (in_hand_of h) _ c.in-Ok.is (omega (arith, g, i)) _ _ e.2 after ∙ i.6,
+      followed-good l.rest.now _ c.judge_front.ensures (in_hand_of h) _ c.in-Ok.is (omega (arith, g, i)) _ _ e.2 after ∙ i.6,
     )
