@@ -2,7 +2,7 @@
 // the lines of the T2-MI packets that it finishes. Where a line has no room nothing of it is laid.
 #![tactic(auto)]
 
-ghost use Rattle.std.specs.Prelude.{◌≡◌, nat_eq, ◌+◌, ◌*◌, ◌<◌, ◌≤◌, ◌++◌, length, Ok};
+ghost use Rattle.std.specs.Prelude.{◌≡◌, nat_eq, ◌+◌, ◌-◌, ◌*◌, ◌<◌, ◌≤◌, ◌++◌, length, leb, Ok};
 ghost use Rattle.arrayvec.specs.ArrayString.{array_string_len};
 ghost use Rattle.gather.specs.Gather.{gathered_told};
 ghost use Rattle.packet.specs.Cut.{cut};
@@ -28,6 +28,14 @@ pub struct Listing {
     pub reader: Reader,
     pub packets: u64,
     pub gaps: u64,
+}
+
+// What feeding a block gives: how many of its bytes are taken, and whether it stopped before a piece whose lines may have too
+// little room. Neither is said by the other alone, so both are told.
+#[derive(Clone, Copy, Debug, PartialEq, Eq)]
+pub struct Fed {
+    pub full: bool,
+    pub taken: usize,
 }
 
 // Appends a number, which has at most 20 digits, and what stands behind it.
@@ -116,7 +124,8 @@ fn lay_lines(text: &mut Text, s: &[u8])
         let Ok(packet) = packet else {
             return;
         };
-        lay_line(text, packet::read(packet));
+        let read = packet::read(packet);
+        lay_line(text, read);
     }
 }
 
@@ -186,26 +195,33 @@ impl Listing {
         true
     }
 
-    // Takes the whole pieces of a block, appends their lines, and gives how many bytes are taken. It is full where it stopped
-    // before a piece whose lines may have too little room: then a whole piece is left of the block, and else none.
+    // Takes the whole pieces of a block, and appends their lines. Where it is full a whole piece is left of the block, and else
+    // none.
     pub fn feed(
         &mut self,
         block: &[u8],
         gathering: &mut [u8],
         output: &mut [u8],
         text: &mut Text,
-    ) -> usize
+    ) -> Fed
         ensures same_reference { text.new.lines.ghost_name ≡ text.old.lines.ghost_name }
-        ensures fed { record { answer = fed_told self.new (length block.now) result text.new.at; gathering = gathering.new; output = output.new; lines = text.new.lines.now } ≡ fed_of (pieces block.now) self.old gathering.old output.old text.old.lines.now 0 text.old.at }
+        ensures full { result.full ≡ leb 188 (length block.now - result.taken) }
+        ensures fed { record { answer = fed_told self.new (length block.now) result.taken text.new.at; gathering = gathering.new; output = output.new; lines = text.new.lines.now } ≡ fed_of (pieces block.now) self.old gathering.old output.old text.old.lines.now 0 text.old.at }
     {
         let mut taken = 0; // counted for the answer
         for piece in block.chunks_exact(188) {
             if !self.step(piece, gathering, output, text) {
-                return taken; // before this piece, which is fed again
+                return Fed {
+                    full: true, // before this piece
+                    taken, // it is fed again
+                };
             }
             taken += 188;
         }
-        taken // no whole piece is left
+        Fed {
+            full: false, // no whole piece is left
+            taken,
+        }
     }
 
     // Appends the line of the totals.

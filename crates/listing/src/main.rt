@@ -3,7 +3,7 @@
 // that the theorem on whole listings (lines, specs/Theorems) has.
 #![tactic(auto)]
 
-ghost use Rattle.std.specs.Prelude.{◌≡◌, ◌≤◌, ◌<◌, is_ok, length, take, IfOk, MatchOption};
+ghost use Rattle.std.specs.Prelude.{◌≡◌, ◌≤◌, ◌<◌, is_ok, length, take, IfOk, OnErr, MatchOption};
 ghost use Rattle.lines.specs.Listing.{start_listing};
 ghost use Rattle.lines.specs.Theorems.{opened, Ends};
 
@@ -45,7 +45,9 @@ fn write_out(rt: &impl Print, text: &[u8]) -> Result<(), Fault> {
 // piece waits to be fed nothing is read. A count beside the block: no Vec, as nothing here has a heap.
 fn more<R: Read>(input: &mut R, block: &mut [u8], have: usize) -> Result<Option<usize>, Fault>
     requires { have ≤ length block.old }
-    ensures { IfOk result (λ came. MatchOption came (have < 188) (λ n. (have ≤ n) × (n ≤ length block.new) × (take have block.new ≡ take have block.old))) }
+    ensures stays { (have ≤ length block.new) × (take have block.new ≡ take have block.old) }
+    ensures came { IfOk result (λ came. MatchOption came (have < 188) (λ n. (have ≤ n) × (n ≤ length block.new))) }
+    ensures failed { OnErr result (have < 188) }
 {
     if 188 <= have {
         return Ok(Some(have));
@@ -79,8 +81,8 @@ fn list_all<R: Read>(
             return Ok(());
         };
         text.at = 0; // what stands there is written out
-        let taken = listing.feed(&block[..came], gathering, output, text);
-        have = lines::keep_rest(block, taken, came);
+        let fed = listing.feed(&block[..came], gathering, output, text);
+        have = lines::keep_rest(block, fed.taken, came);
         write_out(rt, text.so_far())?;
     }
     Err(Fault::Silent)

@@ -44,7 +44,7 @@ returns-in_default c =
 pub loop-packet-preserved : goal.loop-packet-preserved
 loop-packet-preserved c =
     let l = c.loop-packet in
-    let t = turn l.packet-iterator.rest.now (next (goal.at.loop-packet-preserved c).In-Ok) l.text.at l.text.lines.now l.invariant.0 _ _ (c.lay_line.ensures.1 ∙ ap (λ (p : Packet). appended (line_by p) l.text.at l.text.lines.now) c.read.ensures) in
+    let t = turn l.packet-iterator.rest.now (next (goal.at.loop-packet-preserved c).In-Ok) l.text.at l.text.lines.now l.invariant.0 _ _ (c.lay_line.ensures.1 ∙ ap (λ (p : Packet). appended (line_by p) l.text.at l.text.lines.now) c.read-read.ensures) in
     (t.0, c.lay_line.ensures.0 ∙ l.invariant.1, t.1 ∙ l.invariant.2)
 
 pub returns : goal.returns

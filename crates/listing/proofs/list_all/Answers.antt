@@ -19,7 +19,9 @@ from g c = opened c.args.gathering.now c.args.output.now c.args.text.now.lines.n
 
 -- what was read
 came : (g : Over) (c : In-Some g) → (c.loop.have ≤ c.in-Some.came) × (c.in-Some.came ≤ length c.more.new.block) × (take c.loop.have c.more.new.block ≡ take c.loop.have c.loop.block)
-came g c = MatchOption-at_some _ _ c.in-Some.came c.in-Some.is c.in_ok-came.ensures
+came g c =
+    let e = MatchOption-at_some _ _ c.in-Some.came c.in-Some.is c.in_ok-came.ensures.came in
+    (e.0, e.1, c.in_ok-came.ensures.stays.1)
 
 -- the bytes that wait after a read
 brought : (g : Over) (c : In-Some g) → Reached (from g c) c.loop.listing c.loop.gathering c.loop.output c.loop.text.lines.now (take c.in-Some.came c.more.new.block)
@@ -36,11 +38,11 @@ loop-preserved g c =
     let w = (came g m).1 in
     let k = c.keep_rest-have.ensures in (
       omega (arith, kept-within _ _ _ _ _ k, c.keep_rest-have.auto.block),
-      reach-kept (from g m) _ _ _ _ _ _ (brought g m) w _ c.feed-taken.ensures.fed _ _ k,
+      reach-kept (from g m) _ _ _ _ _ _ (brought g m) w _ c.feed-fed.ensures.fed _ _ k,
     )
 
 pub returns-in_err-write_out : goal.returns-in_err-write_out
 returns-in_err-write_out g c =
     let m = (goal.at.returns-in_err-write_out g c).In-Some in
     let q = err_from_is_err_and c.from_residual-in_err-write_out.result c.from_residual-in_err-write_out.ensures.1 in
-    rw q.1 (ends-broken (from g m) _ _ _ _ _ (reach-kept (from g m) _ _ _ _ _ _ (brought g m) (came g m).1 _ c.feed-taken.ensures.fed _ _ c.keep_rest-have.ensures))
+    rw q.1 (ends-broken (from g m) _ _ _ _ _ (reach-kept (from g m) _ _ _ _ _ _ (brought g m) (came g m).1 _ c.feed-fed.ensures.fed _ _ c.keep_rest-have.ensures))
