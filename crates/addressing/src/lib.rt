@@ -181,17 +181,21 @@ impl Seen {
     }
 
     // What it has seen after the function at place at, for which w is the answer. A function that is not heard changes
-    // nothing.
+    // nothing. By cases and not by `or`: a struct made for each function made a walk over many three times as slow.
     fn after(self, heard: bool, at: usize, w: Walked) -> Seen
         ensures { result ≡ seen_after heard at w self }
     {
         if !heard {
             return self;
         }
+        let reached = self.reaches(w.next);
+        if self.first.is_some() || at < self.place {
+            return Seen { reached, ..self };
+        }
         Seen {
             place: self.place,
-            reached: self.reaches(w.next),
-            first: self.first.or((self.place <= at).then_some(w)),
+            reached,
+            first: Some(w),
         }
     }
 
