@@ -25,23 +25,13 @@ after-answer : (w : Walked) (at : ℕ) → w.refusal ≡ 0 → place_after w at 
 unfolding place_after
 after-answer w at h = rw (eq-eqb w.refusal 0 h)
 
--- ---- a step on slice and numbers, from what `walk` answered
+-- ---- a step, from what was found
 
--- what was found, and the place that the walk is then at
-pub record Taken : Type 0 where
-  pub answer : Walked
-  pub at : ℕ
-
-abbrev pub taken_of : List ℕ → ℕ → ℕ → Taken
-taken_of d tx at = record { answer = walk_of house d tx at; at = place_after (walk_of house d tx at) at }
-
-abbrev taken : Walked → ℕ → Taken
-taken w at = record { answer = w; at = at }
-
-module _ (d : List ℕ) (tx at : ℕ) (w : Walked) (e : w ≡ walk_of house d tx at) where
-  -- with a refusal the place stays. docs/PORT.md names it; no proof cites it
-  pub taken_refused : (w.refusal ≡ 0 → ⊥) → taken w at ≡ taken_of d tx at
-  taken_refused h = ap (taken w) (sym (after-refusal w at h)) ∙ ap (λ (x : Walked). taken x (place_after x at)) e
+-- with a refusal the walk stays as it is
+pub taken_refused : (x : Walk) (w : Walked) → w ≡ found_by x → (w.refusal ≡ 0 → ⊥) → record { answer = w; walk = x } ≡ stepped_of x
+taken_refused x w e h =
+    let at = sym (after-refusal w x.at h) ∙ ap (λ (y : Walked). place_after y x.at) e in
+    λ i. record { answer = e i; walk = moved_to x (at i) }
 
 -- ---- a step
 

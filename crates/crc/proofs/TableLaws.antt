@@ -200,3 +200,7 @@ tables-rule n {t} e = record { long = omega (arith, ap length e, length-values e
         let part : (0 + (16 * j + k)) / 16 ≡ j = omega arith in
         let digit : (0 + (16 * j + k)) % 16 ≡ k = omega arith in
         rw (e, get_or-values entry_at 0 (16 * n) (16 * j + k) (omega arith), part, digit)
+
+-- the first of them are tables too
+pub fewer : (m n : ℕ) (t : List ℕ) → m ≤ n → Tables n t → Tables m t
+fewer m n t h r = record { long = omega (arith, r.long); entry = λ j k hj hk. r.entry j k (omega arith) hk }

@@ -39,6 +39,14 @@ pub part-add : (from m n : ℕ) (l : List ℕ) → part from (m + n) l ≡ part 
 unfolding part
 part-add from m n l = take-add m n (drop from l) ∙ ap (λ (r : List ℕ). take m (drop from l) ++ take n r) (drop-drop m from l)
 
+-- one element more
+pub part-more : (from n : ℕ) (l : List ℕ) → from + n < length l → part from (n + 1) l ≡ part from n l ++ (get_or l (from + n) 0 ∷ [])
+unfolding part
+part-more from n l h =
+    rw (add-one)
+    (take-suc (drop from l) n 0 (simp length-drop (omega arith))
+    ∙ ap (λ (x : ℕ). take n (drop from l) ++ (x ∷ [])) (get_or-drop from l n 0))
+
 pub part-cons : (from n : ℕ) (l : List ℕ) → from < length l → part from (suc n) l ≡ get_or l from 0 ∷ part (from + 1) n l
 unfolding part
 part-cons from n l h = rw (add-one from, drop-cons l from 0 h)

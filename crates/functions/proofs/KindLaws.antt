@@ -21,10 +21,18 @@ sized tag k n size right = eqb-true _ _ (not-false _ (rw size at right))
 
 -- ---- flags
 
--- docs/PORT.md names it; no proof cites it
+-- no proof cites these three
+pub byte-bit : (flag : Bool) → bool_byte flag ≡ bit flag
+byte-bit true = refl
+byte-bit false = refl
+
 pub byte_small : (flag : Bool) → bool_byte flag < 2
 byte_small true = lit< tt
 byte_small false = lit< tt
+
+pub bit-small : (flag : Bool) → bit flag < 2
+bit-small true = lit< tt
+bit-small false = lit< tt
 
 pub set-bit : (flag : Bool) → is_set (bit flag) ≡ flag
 set-bit true = refl

@@ -1,11 +1,12 @@
 -- The remainder of a sum that may be negative, over any modulus: it is below the modulus, and it is the library's.
 -- Assumes nothing.
 use mathlib.Core.Path.{◌≡◌, refl, sym, ap, ◌∙◌}
-use Prim.Native.Nat.{ℕ, zero, suc, ◌+◌, ◌-◌, ◌*◌, ◌/◌, ◌%◌, ◌≤◌, ◌<◌}
-use native.Mathlib.Nat.{mod-lt, mod-eq_of_lt, mod-eq-sub-mod, add-mod_right, mod-add-div', zero-mul, suc-mul}
+use Prim.Native.Nat.{ℕ, zero, suc, ◌+◌, ◌-◌, ◌*◌, ◌/◌, ◌%◌, ◌≤◌, ◌<◌, zero-le}
+use native.Mathlib.Nat.{mod-lt, mod-eq_of_lt, mod-eq-sub-mod, add-mod_right, mod-add-div', div-le_self, zero-mul, suc-mul}
 use native.Mathlib.Omega.{arith}
 use lib.Dec.{ltb}
-use lib.IntN.{ℤ, pos, negsuc, sub_ℕ, ◌+ℤ◌, +ℤ_assoc, +ℤ_comm, +ℤ_idr}
+use lib.IntN.{ℤ, pos, negsuc, neg_ℤ, sub_ℕ, ◌+ℤ◌, ◌-ℤ◌, +ℤ_assoc, +ℤ_comm, +ℤ_idr}
+use lib.Signed.{mag, quot_z}
 use borrow.Author.Tests.{ltb-true, ltb-false, le-ltb}
 use Rattle.std.specs.Int.{int_rem_euclid}
 use Rattle.fields.proofs.Cases.{cases}
@@ -20,6 +21,28 @@ modulo_lt (negsuc k) m h = omega arith
 
 sub-below : (a b : ℕ) → b ≤ a → sub_ℕ a b ≡ pos (a - b)
 sub-below a b h = rw (le-ltb a b h)
+
+-- ---- how large a sum is, and a quotient; no proof cites these
+
+pub mag-add : (n : ℕ) (z : ℤ) → mag (pos n +ℤ z) ≤ n + mag z
+mag-add n (pos k) = omega arith
+mag-add n (negsuc k) =
+    cases (ltb n (suc k))
+    (λ t. rw t (omega arith))
+    (λ t. rw t (omega arith))
+
+pub mag-sub : (n k : ℕ) → mag (pos n -ℤ pos k) ≤ n + k
+mag-sub n zero = omega arith
+mag-sub n (suc k) = omega (arith, mag-add n (negsuc k))
+
+-- a quotient is no larger than what is divided
+pub mag-quotient : (z : ℤ) (m : ℕ) → mag (quot_z z (pos m)) ≤ mag z
+mag-quotient (pos n) m = div-le_self n m
+mag-quotient (negsuc k) m = negated (suc k / m) (div-le_self (suc k) m)
+  where
+    negated : (r : ℕ) → r ≤ suc k → mag (neg_ℤ (pos r)) ≤ k
+    negated zero h = zero-le
+    negated (suc r) h = omega arith
 
 -- ---- the library's remainder, which is never negative, is the definition's
 

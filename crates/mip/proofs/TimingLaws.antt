@@ -1,17 +1,20 @@
 -- The laws of site timing: what the two operations show, and that every time they give is below a second.
 -- Assumes nothing.
-use mathlib.Core.Path.{◌≡◌, refl, ap}
-use mathlib.Core.List.{List}
-use Prim.Native.Nat.{◌+◌, ◌<◌}
+use mathlib.Core.Path.{◌≡◌, refl, sym, ap, ◌∙◌}
+use mathlib.Core.Bool.{true, false, cond}
+use mathlib.Core.List.{List, [], ◌∷◌}
+use Prim.Native.Nat.{ℕ, ◌+◌, ◌<◌}
+use native.Mathlib.Omega.{arith}
 use lib.Dec.{eqb, lit<}
 use lib.IntN.{ℤ, pos, neg_ℤ, ◌+ℤ◌, ◌-ℤ◌}
 use borrow.Author.Tests.{eqb-true, eqb-false}
 use Rattle.fields.proofs.Cases.{cases}
-use Rattle.refusals.specs.Checks.{Check, first}
+use Rattle.refusals.specs.Checks.{Check, ◌when◌, first}
+use Rattle.refusals.proofs.CheckLaws.{none-holds, first-front, first-behind}
 use Rattle.refusals.proofs.AnswerLaws.{answer-accepted, answer-refused, answer-shows}
 use Rattle.mip.proofs.ModuloLaws.{modulo_lt, modulo-modulo}
 use Rattle.mip.specs.Layout.{second}
-use Rattle.mip.specs.Timing.{modulo, steps, emitted, held, emission_checks, extra_checks, time, timed, emission_of, extra_of, Time}
+use Rattle.mip.specs.Timing.{modulo, steps, over, emitted, held, emission_checks, extra_checks, time, timed, emission_of, extra_of, Time}
 use Rattle.mip.specs.declared.Steps.{Steps}
 
 -- ---- an operation that gives a time
@@ -70,6 +73,27 @@ module _ (stamp delay : Steps) (offset : ℤ) (reception : Steps) where
   pub extra-below : (extra_of stamp delay offset reception).steps.0 < second
   unfolding extra_of
   extra-below = timed-below (extra_checks stamp delay offset reception) _ (modulo_lt _ second (lit< tt))
+
+  -- the reception time is judged last
+  early : (first (emission_checks stamp delay offset) ≡ 0 → ⊥) → first (extra_checks stamp delay offset reception) ≡ first (emission_checks stamp delay offset)
+  unfolding emission_checks extra_checks
+  early z = first-front (emission_checks stamp delay offset) (37 when over reception ∷ []) z
+
+  late : first (emission_checks stamp delay offset) ≡ 0 → first (extra_checks stamp delay offset reception) ≡ cond (over reception) 37 0
+  unfolding emission_checks extra_checks
+  late z = first-behind (emission_checks stamp delay offset) (37 when over reception ∷ []) (none-holds (emission_checks stamp delay offset) tt z)
+
+  pub extra-early : (first (emission_checks stamp delay offset) ≡ 0 → ⊥) → extra_of stamp delay offset reception ≡ emission_of stamp delay offset
+  extra-early z =
+      extra-refused (λ e. z (sym (early z) ∙ e)) ∙ ap (λ (n : ℕ). time n (steps 0)) (early z) ∙ sym (emission-refused stamp delay offset z)
+
+  pub extra-late : first (emission_checks stamp delay offset) ≡ 0 → over reception ≡ true → extra_of stamp delay offset reception ≡ time 37 (steps 0)
+  extra-late z t =
+      let e : first (extra_checks stamp delay offset reception) ≡ 37 = late z ∙ rw t in
+      extra-refused (λ n. let k : ◌≡◌ {A = ℕ} 37 0 = sym e ∙ n in omega arith) ∙ ap (λ (n : ℕ). time n (steps 0)) e
+
+  pub extra-passed : first (emission_checks stamp delay offset) ≡ 0 → over reception ≡ false → extra_of stamp delay offset reception ≡ time 0 (held stamp delay offset reception)
+  extra-passed z t = extra-accepted (late z ∙ rw t)
 
   -- as annex B has it: one sum, and one remainder
   pub held-once : held stamp delay offset reception ≡ steps (modulo (pos (stamp.0 + delay.0) +ℤ offset -ℤ pos reception.0) second)

@@ -72,13 +72,18 @@ word-length n end = length-append (digits n) (end ∷ [])
 pub word-few : (k n end : ℕ) → n < 10 ^ k → 0 < k → length (word n end) ≤ k + 1
 word-few k n end h p = omega (arith, word-length n end, digits-few k n h p)
 
--- ---- docs/PORT.md names these two; no proof cites them
+-- ---- no proof cites these
 
 -- a text laid at the front is read there
-pub front_read : (p l : List ℕ) (r : ℕ) (m : List ℕ) → record { at = r; lines = m } ≡ laid p 0 l → take r m ≡ p
-front_read p l r m e =
-    let z : r ≡ length p = omega (arith, laid-at p 0 l r m e) in
-    rw (z, laid-lines p 0 l r m e) (take-front p l)
+module _ (p l : List ℕ) (r : ℕ) (m : List ℕ) (e : record { at = r; lines = m } ≡ laid p 0 l) where
+  pub front_read : take r m ≡ p
+  front_read =
+      let z : r ≡ length p = omega (arith, laid-at p 0 l r m e) in
+      rw (z, laid-lines p 0 l r m e) (take-front p l)
+
+  pub front-within : r ≤ length m
+  front-within =
+      rw (laid-lines p 0 l r m e, overlay-is 0 p l, length-append p (drop (0 + length p) l)) (omega (arith, laid-at p 0 l r m e))
 
 -- a store before p
 pub set_before : (at : ℕ) (p l : List ℕ) (x : ℕ) → at < length l → set (overlay (at + 1) p l) at x ≡ overlay at (x ∷ p) l
